@@ -1,0 +1,88 @@
+-- Sheets as RFC 4180 and 01, "Site sheet", write them: which bytes are a field, a row, a sheet. Nothing here says how a
+-- sheet is read.
+use Prim.Native.Nat.{ℕ}
+use mathlib.Core.Path.{_≡_}
+use mathlib.Core.Bool.{Bool, true, false}
+use mathlib.Core.List.{List, [], _∷_, _++_}
+use lib.Dec.{eqb}
+
+-- a choice by a test
+abbrev pub pick {ℓ} : {A : Type ℓ} → Bool → A → A → A
+pick true a b = a
+pick false a b = b
+
+-- the four bytes that RFC 4180 sets apart
+abbrev pub quote : ℕ
+quote = 34
+
+abbrev pub comma : ℕ
+comma = 44
+
+abbrev pub cr : ℕ
+cr = 13
+
+abbrev pub lf : ℕ
+lf = 10
+
+-- a byte that may stand in a bare field: "any bytes but quote, comma, CR and LF"
+pub record Plain (b : ℕ) : Type 0 where
+  pub no-quote : b ≡ quote → ⊥
+  pub no-comma : b ≡ comma → ⊥
+  pub no-cr : b ≡ cr → ⊥
+  pub no-lf : b ≡ lf → ⊥
+
+pub data AllPlain : List ℕ → Type 0 where
+  none : AllPlain []
+  more : {b : ℕ} {bs : List ℕ} → Plain b → AllPlain bs → AllPlain (b ∷ bs)
+
+-- a field, as it is written: bare or in quotes, with its content
+pub data Field : Type 0 where
+  bare : List ℕ → Field
+  quoted : List ℕ → Field
+
+pub data Written : Field → Type 0 where
+  -- RFC 4180, 2: non-escaped = *TEXTDATA
+  is-bare : {c : List ℕ} → AllPlain c → Written (bare c)
+  -- the content of a quoted field may hold any byte
+  is-quoted : {c : List ℕ} → Written (quoted c)
+
+abbrev pub content : Field → List ℕ
+content (bare c) = c
+content (quoted c) = c
+
+-- RFC 4180, 2.7: a quote inside a quoted field is "escaped by preceding it with another double quote"
+unfoldable pub escape : List ℕ → List ℕ
+escape [] = []
+escape (b ∷ bs) = pick (eqb b quote) (quote ∷ b ∷ escape bs) (b ∷ escape bs)
+
+-- the bytes of a field
+unfoldable pub fieldText : Field → List ℕ
+fieldText (bare c) = c
+fieldText (quoted c) = quote ∷ escape c ++ (quote ∷ [])
+
+-- a row: one or more fields
+pub data Row : Type 0 where
+  only : Field → Row
+  _then_ : Field → Row → Row
+
+infixr 20 _then_
+pub data WrittenRow : Row → Type 0 where
+  written-only : {f : Field} → Written f → WrittenRow (only f)
+  written-then : {f : Field} {r : Row} → Written f → WrittenRow r → WrittenRow (f then r)
+
+-- RFC 4180, 2.4: fields "separated by commas"
+unfoldable pub rowText : Row → List ℕ
+rowText (only f) = fieldText f
+rowText (f then r) = fieldText f ++ (comma ∷ rowText r)
+
+-- a text begins with this row, and this is the rest of the text behind it
+pub data RowAt : List ℕ → Row → List ℕ → Type 0 where
+  -- "rows ended by CRLF"
+  ended : {text : List ℕ} {r : Row} {rest : List ℕ} → WrittenRow r → text ≡ rowText r ++ (cr ∷ lf ∷ rest) → RowAt text r rest
+  -- "the last CRLF optional"; a last row without CRLF isn't empty
+  last : {text : List ℕ} {r : Row} → WrittenRow r → text ≡ rowText r → (text ≡ [] → ⊥) → RowAt text r []
+
+-- a text is a sheet of these rows; no bytes at all are a sheet of no rows, and after a last CRLF there is no further row
+pub data Sheet : List ℕ → List Row → Type 0 where
+  no-row : Sheet [] []
+  row : {text : List ℕ} {r : Row} {rest : List ℕ} {rs : List Row} → RowAt text r rest → Sheet rest rs → Sheet text (r ∷ rs)

@@ -1,0 +1,267 @@
+// The field cutter and the row cutter. Each byte is looked at once, in the mode that the bytes before it have led to;
+// nothing is copied.
+ghost use mathlib.Core.Path.{_≡_};
+ghost use Prim.Native.Nat.{_<_, _^_};
+ghost use Rattle.sheet.specs.Cut.{emptyAt, upTo, bareMove, shutMove, moveOf, endOf, cutField, pushed, noCells, cutRow};
+
+const QUOTE: u8 = 34;
+
+const COMMA: u8 = 44;
+
+const CR: u8 = 13;
+
+const LF: u8 = 10;
+
+// What the bytes of a field so far have led to.
+pub enum Mode {
+    // no byte of the field yet
+    Fresh,
+    // in a bare field
+    Bare,
+    // in a quoted field, between its quotes
+    Open,
+    // in a quoted field, behind a quote that closes it or is the first of two
+    Shut,
+    // behind the CR that must have an LF
+    Return,
+}
+
+// Where a field's content lies in the sheet: from `start` up to, not including, `end`. Where a quote in the content is
+// doubled, the bytes there aren't the content itself.
+pub struct Cell {
+    pub start: usize,
+    pub end: usize,
+    pub doubled: bool,
+}
+
+// What a byte does.
+pub enum Move {
+    // the field goes on, in this mode and with this cell
+    Go(Mode, Cell),
+    // the field ends, and another follows in the row
+    NextField,
+    // the field ends, and so does the row
+    RowEnd,
+    // no continuation is a well-formed row
+    Wrong,
+}
+
+// The cell of a field of which no byte has come yet.
+fn empty_at(at: usize) -> Cell
+    ensures { λ r. ⌜ r ≡ emptyAt at ⌝ }
+{
+    Cell {
+        start: at,
+        end: at,
+        doubled: false,
+    }
+}
+
+// The cell with its content reaching up to `next`.
+fn up_to(cell: Cell, next: usize, doubled: bool) -> Cell
+    ensures { λ r. ⌜ r ≡ upTo cell next doubled ⌝ }
+{
+    Cell {
+        start: cell.start,
+        end: next,
+        doubled,
+    }
+}
+
+// What a byte other than a quote does in a bare field.
+fn advance_bare(cell: Cell, b: u8, next: usize) -> Move
+    ensures { λ r. ⌜ r ≡ bareMove cell b next ⌝ }
+{
+    match b {
+        COMMA => Move::NextField,
+        CR => Move::Go(Mode::Return, cell),
+        LF => Move::Wrong,
+        _ => Move::Go(Mode::Bare, up_to(cell, next, false)),
+    }
+}
+
+// What a byte does behind a quote that closes a field or is the first of two.
+fn advance_shut(cell: Cell, b: u8, next: usize) -> Move
+    ensures { λ r. ⌜ r ≡ shutMove cell b next ⌝ }
+{
+    match b {
+        QUOTE => Move::Go(Mode::Open, up_to(cell, next, true)),
+        COMMA => Move::NextField,
+        CR => Move::Go(Mode::Return, cell),
+        _ => Move::Wrong,
+    }
+}
+
+// What the byte b does in a field that has come to this mode and this cell; the byte behind it is at `next`.
+fn advance(mode: Mode, cell: Cell, b: u8, next: usize) -> Move
+    ensures { λ r. ⌜ r ≡ moveOf mode cell b next ⌝ }
+{
+    match mode {
+        Mode::Fresh => {
+            if b == QUOTE {
+                Move::Go(Mode::Open, empty_at(next))
+            } else {
+                advance_bare(cell, b, next)
+            }
+        }
+        Mode::Bare => {
+            if b == QUOTE {
+                Move::Wrong
+            } else {
+                advance_bare(cell, b, next)
+            }
+        }
+        Mode::Open => {
+            if b == QUOTE {
+                Move::Go(Mode::Shut, cell)
+            } else {
+                Move::Go(Mode::Open, up_to(cell, next, cell.doubled))
+            }
+        }
+        Mode::Shut => advance_shut(cell, b, next),
+        Mode::Return => { if b == LF { Move::RowEnd } else { Move::Wrong } }
+    }
+}
+
+// What cutting a field finds.
+pub enum FieldCut {
+    // the field; a comma ends it, and the next field begins there
+    Next(Cell, usize),
+    // the field; the row ends with it, and the next row begins there (at the sheet's length: the sheet ends)
+    Last(Cell, usize),
+    // the first byte at which no continuation could be well formed, or the sheet's length where it ends too soon
+    Fault(usize),
+}
+
+// What a field is that the sheet ends in.
+fn at_end(mode: Mode, cell: Cell, len: usize) -> FieldCut
+    ensures { λ r. ⌜ r ≡ endOf mode cell len ⌝ }
+{
+    match mode {
+        Mode::Fresh => FieldCut::Last(cell, len),
+        Mode::Bare => FieldCut::Last(cell, len),
+        Mode::Open => FieldCut::Fault(len),
+        Mode::Shut => FieldCut::Last(cell, len),
+        Mode::Return => FieldCut::Fault(len),
+    }
+}
+
+// The field at a position of the sheet.
+pub fn cut_field(s: &[u8], at: usize) -> FieldCut
+    ensures { λ r. ⌜ r ≡ cutField (now (s .entry)) at ⌝ }
+{
+    let mut mode = Mode::Fresh;
+    let mut cell = empty_at(at);
+    let mut i = at;
+    while i < s.len() {
+        match advance(mode, cell, s[i], i + 1) {
+            Move::Go(m, c) => {
+                mode = m;
+                cell = c;
+                i += 1;
+            }
+            Move::NextField => {
+                return FieldCut::Next(cell, i + 1);
+            }
+            Move::RowEnd => {
+                return FieldCut::Last(cell, i + 1);
+            }
+            Move::Wrong => {
+                return FieldCut::Fault(i);
+            }
+        }
+    }
+    at_end(mode, cell, i)
+}
+
+// The fields of a row: how many, and where the first three lie.
+pub struct Cells {
+    pub count: usize,
+    pub first: Cell,
+    pub second: Cell,
+    pub third: Cell,
+}
+
+// The fields with one more behind them.
+fn push(cells: Cells, cell: Cell) -> Cells
+    requires { ⌜ cells .count < 2 ^ 63 ⌝ }
+    ensures { λ r. ⌜ r ≡ pushed cells cell ⌝ }
+{
+    let count = cells.count;
+    let first = cells.first;
+    let second = cells.second;
+    let third = cells.third;
+    match count {
+        0 => Cells {
+            count: 1,
+            first: cell,
+            second,
+            third,
+        },
+        1 => Cells {
+            count: 2,
+            first,
+            second: cell,
+            third,
+        },
+        2 => Cells {
+            count: 3,
+            first,
+            second,
+            third: cell,
+        },
+        _ => Cells {
+            count: count + 1,
+            first,
+            second,
+            third,
+        },
+    }
+}
+
+fn no_cells() -> Cells
+    ensures { λ r. ⌜ r ≡ noCells ⌝ }
+{
+    let none = empty_at(0);
+    Cells {
+        count: 0,
+        first: none,
+        second: none,
+        third: none,
+    }
+}
+
+// What cutting a row finds.
+pub enum RowCut {
+    // the row's fields; the next row begins there (at the sheet's length: the sheet ends)
+    Cut(Cells, usize),
+    // no row: the position is at the sheet's end or behind it
+    NoRow,
+    // the first byte at which no continuation could be a well-formed row, or the sheet's length where it ends too soon
+    Broken(usize),
+}
+
+// The row at a position of the sheet.
+pub fn cut_row(s: &[u8], at: usize) -> RowCut
+    ensures { λ r. ⌜ r ≡ cutRow (now (s .entry)) at ⌝ }
+{
+    if s.len() <= at {
+        return RowCut::NoRow;
+    }
+    let mut cells = no_cells();
+    let mut i = at;
+    loop {
+        match cut_field(s, i) {
+            FieldCut::Next(cell, next) => {
+                cells = push(cells, cell);
+                i = next;
+            }
+            FieldCut::Last(cell, next) => {
+                return RowCut::Cut(push(cells, cell), next);
+            }
+            FieldCut::Fault(byte) => {
+                return RowCut::Broken(byte);
+            }
+        }
+    }
+}
