@@ -1,2 +1,7 @@
--- Laws that belong to no one function: `Steps` are the definitions of specs/Cut.antt, a byte at a time.
+-- Laws that belong to no one function: `Steps` are the definitions of specs/Cut.antt, a byte at a time; `Written` is the way
+-- from the grammar to the cutters, `Found` the way back.
 pub mod Steps
+pub mod Written
+pub mod Found
+pub mod Faults
+pub mod Unique
