@@ -5,3 +5,4 @@ pub mod Written
 pub mod Found
 pub mod Faults
 pub mod Unique
+pub mod Reading

@@ -87,8 +87,14 @@ FieldIn (Fault byte) lo hi = (lo ≤ byte) × (byte ≤ hi)
 -- and a row's
 abbrev pub RowIn : RowCut → ℕ → ℕ → Type 0
 RowIn (Cut cells next) lo hi = (lo ≤ next) × (next ≤ hi)
-RowIn NoRow lo hi = (lo ≤ hi) × (lo ≤ hi)
+RowIn NoRow lo hi = ⊥
 RowIn (Broken byte) lo hi = (lo ≤ byte) × (byte ≤ hi)
+
+-- and a row's that has a byte: the row takes one at least
+abbrev pub RowPast : RowCut → ℕ → ℕ → Type 0
+RowPast (Cut cells next) lo hi = (lo < next) × (next ≤ hi)
+RowPast NoRow lo hi = ⊥
+RowPast (Broken byte) lo hi = (lo ≤ byte) × (byte ≤ hi)
 
 module _ (i n : ℕ) where
   field-wider : (r : FieldCut) → FieldIn r (i + 1) (i + 1 + n) → FieldIn r i (i + suc n)
@@ -103,10 +109,18 @@ module _ (i n : ℕ) where
   field-turns-in RowEnd cell go more = omega arith
   field-turns-in Wrong cell go more = omega arith
 
-  row-wider : (r : RowCut) → RowIn r (i + 1) (i + 1 + n) → RowIn r (i + 1) (i + suc n)
+  row-wider : (r : RowCut) → RowIn r (i + 1) (i + 1 + n) → RowPast r i (i + suc n)
   row-wider (Cut cells next) h = omega arith
-  row-wider NoRow h = omega arith
+  row-wider NoRow h = h
   row-wider (Broken byte) h = omega arith
+
+  row-turns-in : (move : Move) (cells : Cells) (go : Mode → Cell → RowCut) (new : RowCut)
+      → ((m : Mode) (c : Cell) → RowIn (go m c) (i + 1) (i + 1 + n)) → RowIn new (i + 1) (i + 1 + n)
+      → RowPast (after move go new (Cut cells (i + 1)) (Broken i)) i (i + suc n)
+  row-turns-in (Go m c) cells go new more last = row-wider (go m c) (more m c)
+  row-turns-in NextField cells go new more last = row-wider new last
+  row-turns-in RowEnd cells go new more last = omega arith
+  row-turns-in Wrong cells go new more last = omega arith
 
 field-ends-in : (mode : Mode) (cell : Cell) (i : ℕ) → FieldIn (endOf mode cell i) i (i + 0)
 unfolding endOf
@@ -121,6 +135,42 @@ unfolding fieldFrom
 field-in [] i mode cell = field-ends-in mode cell i
 field-in (b ∷ bs) i mode cell =
     field-turns-in i (length bs) (moveOf mode cell b (i + 1)) cell (λ m c. fieldFrom m c (i + 1) bs) (field-in bs (i + 1))
+
+row-ends-in : (mode : Mode) (cell : Cell) (cells : Cells) (i : ℕ) → RowIn (rowEnd cells (endOf mode cell i)) i (i + 0)
+unfolding endOf
+row-ends-in Fresh cell cells i = omega arith
+row-ends-in Bare cell cells i = omega arith
+row-ends-in Open cell cells i = omega arith
+row-ends-in Shut cell cells i = omega arith
+row-ends-in Return cell cells i = omega arith
+
+row-loose : (r : RowCut) (lo hi : ℕ) → RowPast r lo hi → RowIn r lo hi
+row-loose (Cut cells next) lo hi h = omega arith
+row-loose NoRow lo hi h = h
+row-loose (Broken byte) lo hi h = h
+
+module _ (b : ℕ) (bs : List ℕ) (i : ℕ) (mode : Mode) (cell : Cell) (cells : Cells) where
+  row-past-by : ((i : ℕ) (mode : Mode) (cell : Cell) (cells : Cells) → RowIn (rowFrom mode cell cells i bs) i (i + length bs))
+      → RowPast (rowFrom mode cell cells i (b ∷ bs)) i (i + suc (length bs))
+  unfolding rowFrom
+  row-past-by more =
+      row-turns-in i (length bs) (moveOf mode cell b (i + 1)) (pushed cells cell) (λ m c. rowFrom m c cells (i + 1) bs)
+      (rowFrom Fresh (emptyAt (i + 1)) (pushed cells cell) (i + 1) bs) (λ m c. more (i + 1) m c cells)
+      (more (i + 1) Fresh (emptyAt (i + 1)) (pushed cells cell))
+
+row-in : (bs : List ℕ) (i : ℕ) (mode : Mode) (cell : Cell) (cells : Cells) → RowIn (rowFrom mode cell cells i bs) i (i + length bs)
+unfolding rowFrom
+row-in [] i mode cell cells = row-ends-in mode cell cells i
+row-in (b ∷ bs) i mode cell cells =
+    row-loose (rowFrom mode cell cells i (b ∷ bs)) i (i + suc (length bs)) (row-past-by b bs i mode cell cells (row-in bs))
+
+-- the answer of the row cutter points behind the row's first byte, and not behind the sheet
+pub cut-within : (s : List ℕ) (at : ℕ) {cut : RowCut} → at < length s → cutRow s at ≡ cut → RowPast cut at (length s)
+unfolding cutRow
+cut-within s at {cut} h e =
+    let n : at + suc (length (drop (at + 1) s)) ≡ length s = simp length-drop (omega arith) in
+    let e′ : rowFrom Fresh (emptyAt at) noCells at (getD s at 0 ∷ drop (at + 1) s) ≡ cut = rw (lt-ltb at (length s) h, here s at h) at e in
+    rw n at (rw e′ at (row-past-by (getD s at 0) (drop (at + 1) s) at Fresh (emptyAt at) noCells (row-in (drop (at + 1) s))))
 
 -- the row cutter's loop: the answer from the field at i on is the answer from the start
 pub record RowSoFar (s : List ℕ) (at : ℕ) (cells : Cells) (i : ℕ) : Type 0 where
