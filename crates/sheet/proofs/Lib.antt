@@ -6,3 +6,4 @@ pub mod Found
 pub mod Faults
 pub mod Unique
 pub mod Reading
+pub mod Saying

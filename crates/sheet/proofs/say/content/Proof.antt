@@ -1,36 +1,34 @@
+-- `sheet::say::content` meets its contract: the two tests decide.
+-- Assumes nothing.
+use borrow.Author.Tests.{le-leb, lt-leb}
+use Rattle.sheet.specs.Say.{contentAt}
 use borrow.Author.Needs.{needs}
 use Rattle.sheet.proofs.say.content.Statement.{statement}
 use Rattle.sheet.proofs.say.content.Tie as tie
-use Rattle.sheet.proofs.say.content.Reads as reads
-use Rattle.sheet.proofs.say.content.Lts as lts
 
--- src/say.rt:23:13
 part-result-start : tie.Need-part-result-start
 part-result-start c = search needs
 
--- src/say.rt:23:13
 part-result-end : tie.Need-part-result-end
 part-result-end c = search needs
 
--- src/say.rt:25:13
 slice-aggregate-result : tie.Need-slice-aggregate-result
 slice-aggregate-result c = search needs
 
--- src/say.rt:28:9
 slice-aggregate-result-2 : tie.Need-slice-aggregate-result-2
 slice-aggregate-result-2 c = search needs
 
--- src/say.rt:16:1
 returns : tie.Need-returns
-returns c = ?
+unfolding contentAt
+returns c = simp (le-leb _ _ (c .before .before .if1 .taken), le-leb _ _ (c .before .if2 .taken))
 
--- src/say.rt:16:1
 returns-2 : tie.Need-returns-2
-returns-2 c = ?
+unfolding contentAt
+returns-2 c = simp (le-leb _ _ (c .before .before .if1 .taken), lt-leb _ _ (c .before .if2 .left))
 
--- src/say.rt:16:1
 returns-3 : tie.Need-returns-3
-returns-3 c = ?
+unfolding contentAt
+returns-3 c = simp (lt-leb _ _ (c .before .if1 .left))
 
 pub content-spec : {M : Type 1} → statement M
 content-spec =

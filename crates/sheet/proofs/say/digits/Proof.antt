@@ -1,57 +1,53 @@
+-- `sheet::say::digits` meets its contract. The invariant of its loop: the answer from digit i on is the answer from the start, and the value has at most i digits.
+-- Assumes nothing.
+use Prim.Native.Nat.{_-_}
+use mathlib.Core.Path.{sym, _∙_}
+use native.Mathlib.Omega.{arith}
+use lib.ListN.{length}
+use borrow.Author.Tests.{lt-ltb, le-ltb}
+use Rattle.sheet.proofs.Saying.{DigitsSoFar, digits-start, digits-turn, digits-more, digits-end, digits-limit}
+use borrow.Author.Needs.{needs}
 use Rattle.sheet.proofs.say.digits.Statement.{statement}
 use Rattle.sheet.proofs.say.digits.Tie as tie
-use Rattle.sheet.proofs.say.digits.Reads as reads
-use Rattle.sheet.proofs.say.digits.Lts as lts
 
 abbrev Inv-loop : tie.InvT-loop
-Inv-loop c value₀ i₀ value i = ?
+Inv-loop c value₀ i₀ value i = DigitsSoFar c value i
 
 abbrev μ-loop : tie.MeasureT-loop
-μ-loop c value₀ i₀ value i = ?
+μ-loop c value₀ i₀ value i = length c - i
 
--- src/say.rt:68:5
 loop-holds : tie.Need-loop-holds Inv-loop μ-loop
-loop-holds c = ?
+loop-holds c = digits-start _
 
--- src/say.rt:69:17
 shared-slice-read-b : tie.Need-shared-slice-read-b Inv-loop μ-loop
-shared-slice-read-b c = ?
+shared-slice-read-b c = search needs
 
--- src/say.rt:71:13
 returns : tie.Need-returns Inv-loop μ-loop
-returns c = ?
+returns c = sym (digits-turn (c .before .before .before .loop .inv) (c .before .before .loop-test .taken) ∙ rw (lt-ltb _ _ (c .if1 .taken)))
 
--- src/say.rt:74:13
 returns-2 : tie.Need-returns-2 Inv-loop μ-loop
-returns-2 c = ?
+returns-2 c = sym (digits-turn (c .before .before .before .before .loop .inv) (c .before .before .before .loop-test .taken) ∙ rw (le-ltb _ _ (c .before .if1 .left), lt-ltb _ _ (c .if2 .taken)))
 
--- src/say.rt:76:17
 mul-value : tie.Need-mul-value Inv-loop μ-loop
-mul-value c = ?
+mul-value c = let l = digits-limit (c .before .before .before .before .loop .inv) (c .before .before .before .before .before .pre) in omega arith
 
--- src/say.rt:76:30
 cast-value : tie.Need-cast-value Inv-loop μ-loop
-cast-value c = ?
+cast-value c = omega arith
 
--- src/say.rt:76:17
 add-value : tie.Need-add-value Inv-loop μ-loop
-add-value c = ?
+add-value c = let l = digits-limit (c .before .before .before .before .loop .inv) (c .before .before .before .before .before .pre) in omega arith
 
--- src/say.rt:77:9
 add-i : tie.Need-add-i Inv-loop μ-loop
-add-i c = ?
+add-i c = search needs
 
--- src/say.rt:68:5
 loop-less : tie.Need-loop-less Inv-loop μ-loop
-loop-less c = ?
+loop-less c = search needs
 
--- src/say.rt:68:5
 loop-again : tie.Need-loop-again Inv-loop μ-loop
-loop-again c = ?
+loop-again c = digits-more (c .before .before .before .before .loop .inv) (c .before .before .before .loop-test .taken) (c .before .if1 .left) (c .if2 .left)
 
--- src/say.rt:62:1
 returns-3 : tie.Need-returns-3 Inv-loop μ-loop
-returns-3 c = ?
+returns-3 c = sym (digits-end (c .before .loop .inv) (c .loop-test .left))
 
 pub digits-spec : {M : Type 1} → statement M
 digits-spec =

@@ -1,34 +1,32 @@
+-- `sheet::say::number_in` meets its contract: its tests are those of `numberOf`, in their order.
+-- Assumes nothing.
+use borrow.Author.Tests.{eq-eqb, ne-eqb, lt-ltb, le-ltb}
+use Rattle.sheet.specs.Say.{numberOf}
 use borrow.Author.Needs.{needs}
 use Rattle.sheet.proofs.say.number_in.Statement.{statement}
 use Rattle.sheet.proofs.say.number_in.Tie as tie
-use Rattle.sheet.proofs.say.number_in.Reads as reads
-use Rattle.sheet.proofs.say.number_in.Lts as lts
-use Rattle.sheet.proofs.say.digits.Reads as digits-reads
-use Rattle.sheet.proofs.say.needless_zero.Reads as needless-zero-reads
 
--- src/say.rt:87:9
 returns : tie.Need-returns
-returns c = ?
+unfolding numberOf
+returns c = simp (eq-eqb _ _ (c .if1 .taken))
 
--- src/say.rt:90:9
 returns-2 : tie.Need-returns-2
-returns-2 c = ?
+unfolding numberOf
+returns-2 c = simp (ne-eqb _ _ (c .before .if1 .left), lt-ltb _ _ (c .if2 .taken))
 
--- src/say.rt:92:8
 needless-zero-requires : tie.Need-needless-zero-requires
 needless-zero-requires c κs = search needs
 
--- src/say.rt:93:9
 returns-3 : tie.Need-returns-3
-returns-3 c = ?
+unfolding numberOf
+returns-3 c = simp (ne-eqb _ _ (c .before .before .before .if1 .left), le-ltb _ _ (c .before .before .if2 .left), ← c .before .needless-zero .ensures, c .if3 .taken)
 
--- src/say.rt:95:5
 digits-requires : tie.Need-digits-requires
 digits-requires c κs = search needs
 
--- src/say.rt:83:1
 returns-4 : tie.Need-returns-4
-returns-4 c = ?
+unfolding numberOf
+returns-4 c = simp (ne-eqb _ _ (c .before .before .before .before .if1 .left), le-ltb _ _ (c .before .before .before .if2 .left), ← c .before .before .needless-zero .ensures, c .before .if3 .left) (c .digits .ensures)
 
 pub number-in-spec : {M : Type 1} → statement M
 number-in-spec =

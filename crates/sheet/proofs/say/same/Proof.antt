@@ -1,49 +1,46 @@
+-- `sheet::say::same` meets its contract. The invariant of its loop: the answer from byte i on is the answer from the start.
+-- Assumes nothing.
+use Prim.Native.Nat.{_-_}
+use mathlib.Core.Path.{sym, ap, _∙_}
+use lib.ListN.{length}
+use borrow.Author.Tests.{ne-eqb}
+use Rattle.sheet.proofs.Saying.{SameSoFar, same-false, same-start, same-turn, same-more, same-end}
+use borrow.Author.Needs.{needs}
 use Rattle.sheet.proofs.say.same.Statement.{statement}
 use Rattle.sheet.proofs.say.same.Tie as tie
-use Rattle.sheet.proofs.say.same.Reads as reads
-use Rattle.sheet.proofs.say.same.Lts as lts
 
 abbrev Inv-loop : tie.InvT-loop
-Inv-loop a b i₀ i = ?
+Inv-loop a b i₀ i = SameSoFar a b i
 
 abbrev μ-loop : tie.MeasureT-loop
-μ-loop a b i₀ i = ?
+μ-loop a b i₀ i = length a - i
 
--- src/say.rt:37:9
 returns : tie.Need-returns Inv-loop μ-loop
-returns c = ?
+returns c = sym (same-false _ _ (λ e. c .if1 .taken (ap length e)))
 
--- src/say.rt:40:5
 loop-holds : tie.Need-loop-holds Inv-loop μ-loop
-loop-holds c = ?
+loop-holds c = same-start _ _ (c .if1 .left)
 
--- src/say.rt:41:12
 shared-slice-read-if2 : tie.Need-shared-slice-read-if2 Inv-loop μ-loop
-shared-slice-read-if2 c = ?
+shared-slice-read-if2 c = search needs
 
--- src/say.rt:41:20
 shared-slice-read-if2-2 : tie.Need-shared-slice-read-if2-2 Inv-loop μ-loop
-shared-slice-read-if2-2 c = ?
+shared-slice-read-if2-2 c = search needs
 
--- src/say.rt:42:13
 returns-2 : tie.Need-returns-2 Inv-loop μ-loop
-returns-2 c = ?
+returns-2 c = sym (same-turn (c .before .before .before .before .loop .inv) (c .before .before .before .loop-test .taken) ∙ rw (ne-eqb _ _ (c .if2 .taken)))
 
--- src/say.rt:44:9
 add-i : tie.Need-add-i Inv-loop μ-loop
-add-i c = ?
+add-i c = search needs
 
--- src/say.rt:40:5
 loop-less : tie.Need-loop-less Inv-loop μ-loop
-loop-less c = ?
+loop-less c = search needs
 
--- src/say.rt:40:5
 loop-again : tie.Need-loop-again Inv-loop μ-loop
-loop-again c = ?
+loop-again c = same-more (c .before .before .before .before .loop .inv) (c .before .before .before .loop-test .taken) (c .if2 .left)
 
--- src/say.rt:33:1
 returns-3 : tie.Need-returns-3 Inv-loop μ-loop
-returns-3 c = ?
+returns-3 c = sym (same-end (c .before .loop .inv) (c .loop-test .left))
 
 pub same-spec : {M : Type 1} → statement M
 same-spec =

@@ -1,0 +1,110 @@
+-- Words and numbers: what the loops of `say` have to know of specs/Say.antt, and that its tests are its facts.
+-- Assumes nothing.
+use Prim.Native.Nat.{ℕ, zero, suc, _+_, _-_, _*_, _^_, _≤_, _<_}
+use native.Mathlib.Nat.{pow-suc, pow-le-pow-right, zero-add}
+use native.Mathlib.Numerals.{add-one}
+use native.Mathlib.Omega.{arith}
+use mathlib.Core.Path.{_≡_, refl, sym, ap, ap₂, _∙_}
+use mathlib.Core.Bool.{Bool, true, false}
+use mathlib.Core.List.{List, [], _∷_}
+use lib.ListN.{length, getD, drop, drop-of-length-le}
+use lib.Dec.{ltb, eqb}
+use borrow.Author.Tests.{ltb-true, ltb-false, le-ltb, lt-ltb, eqb-true, eqb-false, eq-eqb, ne-eqb}
+use Rattle.sheet.specs.declared.say.Number.{Number}
+use Rattle.sheet.specs.declared.say.Number.the-variants.{Is, None}
+use Rattle.sheet.specs.Grammar.{pick}
+use Rattle.sheet.specs.Say.{width, Digit, valueFrom, ProperNumber, sameBytes, digitsFrom, needlessZero, numberOf}
+use Rattle.sheet.proofs.Steps.{here}
+
+-- ---- two lists of bytes
+
+pub same-self : (a : List ℕ) → sameBytes a a ≡ true
+unfolding sameBytes
+same-self [] = refl
+same-self (x ∷ xs) = rw (eq-eqb x x refl) (same-self xs)
+
+pub same-true : (a b : List ℕ) → sameBytes a b ≡ true → a ≡ b
+unfolding sameBytes
+same-true [] [] e = refl
+same-true [] (y ∷ ys) e = let z : _≡_ {A = ℕ} 0 1 = cc in absurd (omega arith)
+same-true (x ∷ xs) [] e = let z : _≡_ {A = ℕ} 0 1 = cc in absurd (omega arith)
+same-true (x ∷ xs) (y ∷ ys) e = go (eqb x y) refl (λ h. same-true xs ys h)
+  where
+    go : (q : Bool) → eqb x y ≡ q → (sameBytes xs ys ≡ true → xs ≡ ys) → x ∷ xs ≡ y ∷ ys
+    go true q more = ap₂ (λ (n : ℕ) (l : List ℕ). n ∷ l) (eqb-true x y q) (more (rw q at e))
+    go false q more =
+        let h : false ≡ true = rw q at e in
+        let z : _≡_ {A = ℕ} 0 1 = cc in
+        absurd (omega arith)
+
+pub same-false : (a b : List ℕ) → (a ≡ b → ⊥) → sameBytes a b ≡ false
+same-false a b n = go (sameBytes a b) refl
+  where
+    go : (q : Bool) → sameBytes a b ≡ q → q ≡ false
+    go true q = absurd (n (same-true a b q))
+    go false q = refl
+
+-- the loop that compares: the answer from byte i on is the answer from the start
+pub record SameSoFar (a b : List ℕ) (i : ℕ) : Type 0 where
+  pub answer : sameBytes a b ≡ sameBytes (drop i a) (drop i b)
+  pub long : length a ≡ length b
+  pub within : i ≤ length a
+
+module _ {a b : List ℕ} {i : ℕ} (so : SameSoFar a b i) where
+  pub same-turn : i < length a → sameBytes a b ≡ pick (eqb (getD a i 0) (getD b i 0)) (sameBytes (drop (i + 1) a) (drop (i + 1) b)) false
+  unfolding sameBytes
+  same-turn h =
+      let k : i < length b = rw (so .long) at h in
+      so .answer ∙ rw (here a i h, here b i k)
+
+  pub same-more : i < length a → getD a i 0 ≡ getD b i 0 → SameSoFar a b (i + 1)
+  same-more h e = record { answer = same-turn h ∙ rw (eq-eqb (getD a i 0) (getD b i 0) e); long = so .long; within = omega arith }
+
+  pub same-end : length a ≤ i → sameBytes a b ≡ true
+  unfolding sameBytes
+  same-end h =
+      let l = so .long in
+      let k : length b ≤ i = omega arith in
+      so .answer ∙ rw (drop-of-length-le a h, drop-of-length-le b k)
+
+pub same-start : (a b : List ℕ) → length a ≡ length b → SameSoFar a b 0
+same-start a b h = record { answer = refl; long = h; within = omega arith }
+
+-- ---- digits
+
+-- the loop over the digits
+pub record DigitsSoFar (c : List ℕ) (value i : ℕ) : Type 0 where
+  pub answer : digitsFrom 0 c ≡ digitsFrom value (drop i c)
+  pub small : value < 10 ^ i
+  pub within : i ≤ length c
+
+module _ {c : List ℕ} {value i : ℕ} (so : DigitsSoFar c value i) where
+  pub digits-limit : length c ≤ width → value < 10 ^ width
+  digits-limit h =
+      let w = so .within in
+      let s = so .small in
+      let z : 0 < 10 = omega arith in
+      let n : i ≤ width = omega arith in
+      let p : 10 ^ i ≤ 10 ^ width = pow-le-pow-right z n in
+      omega arith
+
+  pub digits-turn : i < length c
+      → digitsFrom 0 c ≡ pick (ltb (getD c i 0) 48) None (pick (ltb 57 (getD c i 0)) None (digitsFrom (value * 10 + (getD c i 0 - 48)) (drop (i + 1) c)))
+  unfolding digitsFrom
+  digits-turn h = so .answer ∙ rw (here c i h)
+
+  pub digits-more : i < length c → 48 ≤ getD c i 0 → getD c i 0 ≤ 57 → DigitsSoFar c (value * 10 + (getD c i 0 - 48)) (i + 1)
+  digits-more h from to =
+      let s = so .small in
+      record {
+        answer = digits-turn h ∙ rw (le-ltb (getD c i 0) 48 from, le-ltb 57 (getD c i 0) to);
+        small = rw (add-one, pow-suc) (omega arith);
+        within = omega arith;
+      }
+
+  pub digits-end : length c ≤ i → digitsFrom 0 c ≡ Is value
+  unfolding digitsFrom
+  digits-end h = so .answer ∙ rw (drop-of-length-le c h)
+
+pub digits-start : (c : List ℕ) → DigitsSoFar c 0 0
+digits-start c = record { answer = refl; small = omega arith; within = omega arith }
