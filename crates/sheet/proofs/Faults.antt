@@ -22,6 +22,10 @@ IsCut (Cut cells next) = Unit {0}
 IsCut NoRow = ⊥
 IsCut (Broken byte) = ⊥
 
+-- a list with a byte in it
+pub data Some : List ℕ → Type 0 where
+  some : {b : ℕ} {bs : List ℕ} → Some (b ∷ bs)
+
 -- the reader F, given bs at byte i, breaks off at `byte`: the bytes before it can be mended, the byte itself can't
 pub record Stuck (F : List ℕ → RowCut) (bs : List ℕ) (i byte : ℕ) : Type 0 where
   pub before : List ℕ
@@ -29,6 +33,7 @@ pub record Stuck (F : List ℕ → RowCut) (bs : List ℕ) (i byte : ℕ) : Type
   pub split : bs ≡ before ++ behind
   pub place : byte ≡ i + length before
   pub mend : List ℕ
+  pub some-mend : Some mend
   pub mended : IsCut (F (before ++ mend))
   pub hopeless : (c : ℕ) (rest other : List ℕ) → behind ≡ c ∷ rest → F (before ++ (c ∷ other)) ≡ Broken byte
 
@@ -48,21 +53,29 @@ later F G b bs i (Broken byte) e s = record {
   split = ap (λ (l : List ℕ). b ∷ l) (s .split);
   place = s .place ∙ omega arith;
   mend = s .mend;
+  some-mend = s .some-mend;
   mended = rw (e (s .before ++ s .mend)) (s .mended);
   hopeless = λ c rest other h. e (s .before ++ (c ∷ other)) ∙ s .hopeless c rest other h;
 }
 
 -- what ends a row from each mode
 abbrev mendOf : Mode → List ℕ
-mendOf Fresh = []
-mendOf Bare = []
-mendOf Open = quote ∷ []
-mendOf Shut = []
+mendOf Fresh = cr ∷ lf ∷ []
+mendOf Bare = cr ∷ lf ∷ []
+mendOf Open = quote ∷ cr ∷ lf ∷ []
+mendOf Shut = cr ∷ lf ∷ []
 mendOf Return = lf ∷ []
+
+mend-some : (mode : Mode) → Some (mendOf mode)
+mend-some Fresh = some
+mend-some Bare = some
+mend-some Open = some
+mend-some Shut = some
+mend-some Return = some
 
 module _ (k : Cell) (cells : Cells) (i : ℕ) where
   mends : (mode : Mode) → IsCut (rowFrom mode k cells i (mendOf mode))
-  unfolding rowFrom moveOf endOf
+  unfolding rowFrom moveOf bareMove shutMove
   mends Fresh = tt
   mends Bare = tt
   mends Open = tt
@@ -72,7 +85,7 @@ module _ (k : Cell) (cells : Cells) (i : ℕ) where
   -- broken at the very byte that comes, or at the sheet's end
   now : (mode : Mode) (bs : List ℕ) → ((c : ℕ) (rest other : List ℕ) → bs ≡ c ∷ rest → rowFrom mode k cells i (c ∷ other) ≡ Broken i)
       → Stuck (rowFrom mode k cells i) bs i i
-  now mode bs h = record { before = []; behind = bs; split = refl; place = sym (add-zero i); mend = mendOf mode; mended = mends mode; hopeless = h }
+  now mode bs h = record { before = []; behind = bs; split = refl; place = sym (add-zero i); mend = mendOf mode; some-mend = mend-some mode; mended = mends mode; hopeless = h }
 
   no-byte : (c : ℕ) (rest : List ℕ) {r : RowCut} → _≡_ {A = List ℕ} [] (c ∷ rest) → r ≡ Broken i
   no-byte c rest e = let z : _≡_ {A = ℕ} 0 1 = cc in absurd (omega arith)

@@ -7,3 +7,5 @@ pub mod Faults
 pub mod Unique
 pub mod Reading
 pub mod Saying
+pub mod Exact
+pub mod Contents

@@ -108,3 +108,84 @@ module _ {c : List ℕ} {value i : ℕ} (so : DigitsSoFar c value i) where
 
 pub digits-start : (c : List ℕ) → DigitsSoFar c 0 0
 digits-start c = record { answer = refl; small = omega arith; within = omega arith }
+
+-- ---- proper numbers
+
+clash : {n : ℕ} {A : Type 0} → None ≡ Is n → A
+clash e = let z : _≡_ {A = ℕ} 0 1 = cc in absurd (omega arith)
+
+abbrev AllDigits : List ℕ → Type 0
+AllDigits c = (i : ℕ) → i < length c → Digit (getD c i 0)
+
+digits-value : (v : ℕ) (c : List ℕ) → AllDigits c → digitsFrom v c ≡ Is (valueFrom v c)
+unfolding digitsFrom valueFrom
+digits-value v [] d = refl
+digits-value v (b ∷ c) d =
+    let b-is = d 0 (omega arith) in
+    rw (le-ltb b 48 (b-is .from), le-ltb 57 b (b-is .to)) (digits-value (v * 10 + (b - 48)) c (λ i h. d (suc i) (omega arith)))
+
+record DigitsAre (v n : ℕ) (c : List ℕ) : Type 0 where
+  digits : AllDigits c
+  value : n ≡ valueFrom v c
+
+digits-are : (v : ℕ) (c : List ℕ) {n : ℕ} → digitsFrom v c ≡ Is n → DigitsAre v n c
+unfolding digitsFrom valueFrom
+digits-are v [] {n} e = record { digits = λ i h. absurd (omega arith); value = cc }
+digits-are v (b ∷ c) {n} e = low (ltb b 48) refl (λ h. digits-are (v * 10 + (b - 48)) c h)
+  where
+    all : Digit b → AllDigits c → AllDigits (b ∷ c)
+    all d ds zero h = d
+    all d ds (suc i) h = ds i (omega arith)
+
+    high : (q : Bool) → ltb b 48 ≡ false → ltb 57 b ≡ q → (digitsFrom (v * 10 + (b - 48)) c ≡ Is n → DigitsAre (v * 10 + (b - 48)) n c) → DigitsAre v n (b ∷ c)
+    high true p q more = clash (rw (p, q) at e)
+    high false p q more =
+        let m = more (rw (p, q) at e) in
+        record { digits = all (record { from = ltb-false b 48 p; to = ltb-false 57 b q }) (m .digits); value = m .value }
+
+    low : (q : Bool) → ltb b 48 ≡ q → (digitsFrom (v * 10 + (b - 48)) c ≡ Is n → DigitsAre (v * 10 + (b - 48)) n c) → DigitsAre v n (b ∷ c)
+    low true p more = clash (rw p at e)
+    low false p more = high (ltb 57 b) p refl more
+
+needless-none : (c : List ℕ) → (getD c 0 0 ≡ 48 → length c ≤ 1) → needlessZero c ≡ false
+unfolding needlessZero
+needless-none c h = go (ltb (length c) 2) refl
+  where
+    go : (q : Bool) → ltb (length c) 2 ≡ q → pick (ltb (length c) 2) false (eqb (getD c 0 0) 48) ≡ false
+    go true q = rw q
+    go false q = let l = ltb-false (length c) 2 q in rw q (ne-eqb _ _ (λ e. let m = h e in omega arith))
+
+needless-not : (c : List ℕ) → needlessZero c ≡ false → getD c 0 0 ≡ 48 → length c ≤ 1
+unfolding needlessZero
+needless-not c z h = go (ltb (length c) 2) refl
+  where
+    go : (q : Bool) → ltb (length c) 2 ≡ q → length c ≤ 1
+    go true q = let l = ltb-true (length c) 2 q in omega arith
+    go false q = absurd (eqb-false (getD c 0 0) 48 (rw q at z) h)
+
+-- a proper number is read, with its value
+pub proper-read : (c : List ℕ) {n : ℕ} → ProperNumber c n → numberOf c ≡ Is n
+unfolding numberOf
+proper-read c p =
+    let a : length c ≡ 0 → ⊥ = λ e. let s = p .some in omega arith in
+    rw (ne-eqb (length c) 0 a, le-ltb width (length c) (p .few), needless-none c (p .no-needless-zero), p .value) (digits-value 0 c (p .digits))
+
+-- and only a proper number is read
+pub read-proper : (c : List ℕ) {n : ℕ} → numberOf c ≡ Is n → ProperNumber c n
+unfolding numberOf
+read-proper c {n} e = go₁ (eqb (length c) 0) refl
+  where
+    go₃ : (q : Bool) → eqb (length c) 0 ≡ false → ltb width (length c) ≡ false → needlessZero c ≡ q → ProperNumber c n
+    go₃ true p₁ p₂ q = clash (rw (p₁, p₂, q) at e)
+    go₃ false p₁ p₂ q =
+        let d = digits-are 0 c (rw (p₁, p₂, q) at e) in
+        let l = eqb-false (length c) 0 p₁ in
+        record { some = omega arith; few = ltb-false width (length c) p₂; digits = d .digits; no-needless-zero = needless-not c q; value = d .value }
+
+    go₂ : (q : Bool) → eqb (length c) 0 ≡ false → ltb width (length c) ≡ q → ProperNumber c n
+    go₂ true p₁ q = clash (rw (p₁, q) at e)
+    go₂ false p₁ q = go₃ (needlessZero c) p₁ q refl
+
+    go₁ : (q : Bool) → eqb (length c) 0 ≡ q → ProperNumber c n
+    go₁ true q = clash (rw q at e)
+    go₁ false q = go₂ (ltb width (length c)) q refl

@@ -86,3 +86,13 @@ pub data RowAt : List ℕ → Row → List ℕ → Type 0 where
 pub data Sheet : List ℕ → List Row → Type 0 where
   no-row : Sheet [] []
   row : {text : List ℕ} {r : Row} {rest : List ℕ} {rs : List Row} → RowAt text r rest → Sheet rest rs → Sheet text (r ∷ rs)
+
+-- the fields of a row
+unfoldable pub fields : Row → List Field
+fields (only f) = f ∷ []
+fields (f then r) = f ∷ fields r
+
+-- a text begins with these rows, and this is the rest of the text behind them
+pub data Leads : List ℕ → List Row → List ℕ → Type 0 where
+  here : {text : List ℕ} → Leads text [] text
+  on : {text : List ℕ} {r : Row} {rest : List ℕ} {rs : List Row} {end : List ℕ} → RowAt text r rest → Leads rest rs end → Leads text (r ∷ rs) end
