@@ -16,10 +16,12 @@ use Rattle.sheet.specs.declared.cut.RowCut.{RowCut}
 use Rattle.sheet.specs.declared.cut.RowCut.the-variants.{Cut, NoRow, Broken}
 use Rattle.sheet.specs.Grammar.{cr, lf, Row, rowText, RowAt, ended, last}
 use Rattle.sheet.specs.Cut.{emptyAt, noCells, rowFrom, cutRow}
-use Rattle.sheet.specs.Where.{cellsOf}
+use Rattle.sheet.specs.Where.{cellsOf, RowHolds}
+use Rattle.sheet.specs.Meaning.{CutRow}
 use Rattle.sheet.proofs.Written.{row-run, by-crlf, by-end}
 use Rattle.sheet.proofs.Found.{in-fresh, RowEnds, row-crlf, row-sheet, RowFound, row-found}
 use Rattle.sheet.proofs.Unique.{no-row-at}
+use Rattle.sheet.proofs.Contents.{row-holds}
 use Rattle.sheet.proofs.Reading.{cut-behind, cut-there}
 
 -- a row at the front of a text is read, and the rest of the text is left
@@ -66,28 +68,27 @@ module _ (s : List ℕ) (at : ℕ) where
       cut-from h ∙ row-read at noCells a ∙ rw n
 
   -- where the next row begins, the rest of the text begins
-  pub next-is-rest : {r : Row} {rest : List ℕ} → RowAt (drop at s) r rest → drop (length s - length rest) s ≡ rest
+  next-is-rest : {r : Row} {rest : List ℕ} → RowAt (drop at s) r rest → drop (length s - length rest) s ≡ rest
   next-is-rest {r} {rest} a =
       let h = row-there a in
       let k = rest-shorter a in
       let n : length s - length rest ≡ at + (length (drop at s) - length rest) = simp length-drop (omega (arith, simp length-drop at k)) in
       rw (n, ← drop-drop (length (drop at s) - length rest) at s) (rest-is-end a)
 
--- what a row that was cut is
-pub record CutRow (s : List ℕ) (at : ℕ) (cells : Cells) (next : ℕ) : Type 0 where
-  pub row : Row
-  pub rest : List ℕ
-  pub there : RowAt (drop at s) row rest
-  pub cells-are : cells ≡ cellsOf noCells at row
-  pub next-is : next ≡ length s - length rest
-  pub behind : drop next s ≡ rest
+-- the cells of a row that the grammar has hold it
+held : (s : List ℕ) (at : ℕ) {r : Row} {rest : List ℕ} → RowAt (drop at s) r rest → at ≤ length s → RowHolds s (cellsOf noCells at r) r
+held s at {r} {rest} (ended w e) l = row-holds s at r (cr ∷ lf ∷ rest) l e
+held s at {r} (last w e h) l = row-holds s at r [] l (e ∙ sym (append-nil (rowText r)))
 
 module _ (s : List ℕ) (at : ℕ) {cells : Cells} {next : ℕ} where
   cut-of : {r : Row} {rest : List ℕ} → cutRow s at ≡ Cut cells next → RowAt (drop at s) r rest → CutRow s at cells next
   cut-of {r} {rest} e a =
       let e′ = row-is-cut s at a in
       let n : next ≡ length s - length rest = cc in
-      record { row = r; rest = rest; there = a; cells-are = cc; next-is = n; behind = rw n (next-is-rest s at a) }
+      let c : cells ≡ cellsOf noCells at r = cc in
+      let l = row-there s at a in
+      let w : at ≤ length s = omega arith in
+      record { row = r; rest = rest; there = a; holds = rw c (held s at a w); next-is = n; behind = rw n (next-is-rest s at a) }
 
   cut-ends : cutRow s at ≡ Cut cells next → (drop at s ≡ [] → ⊥) → RowEnds (drop at s) → CutRow s at cells next
   cut-ends e h (row-crlf r rest w q) = cut-of e (ended w q)

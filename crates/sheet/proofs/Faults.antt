@@ -17,10 +17,11 @@ use Rattle.sheet.specs.declared.cut.RowCut.the-variants.{Cut, NoRow, Bro
 use Rattle.sheet.specs.Grammar.{quote, comma, cr, lf}
 use Rattle.sheet.specs.Cut.{emptyAt, bareMove, shutMove, moveOf, after, endOf, pushed, rowEnd, rowFrom}
 
-abbrev pub IsCut : RowCut → Type 0
-IsCut (Cut cells next) = Unit {0}
-IsCut NoRow = ⊥
-IsCut (Broken byte) = ⊥
+-- a row that ends at byte n
+abbrev pub EndsAt : ℕ → RowCut → Type 0
+EndsAt n (Cut cells next) = next ≡ n
+EndsAt n NoRow = ⊥
+EndsAt n (Broken byte) = ⊥
 
 -- a list with a byte in it
 pub data Some : List ℕ → Type 0 where
@@ -34,7 +35,7 @@ pub record Stuck (F : List ℕ → RowCut) (bs : List ℕ) (i byte : ℕ) : Type
   pub place : byte ≡ i + length before
   pub mend : List ℕ
   pub some-mend : Some mend
-  pub mended : IsCut (F (before ++ mend))
+  pub mended : EndsAt (i + length (before ++ mend)) (F (before ++ mend))
   pub hopeless : (c : ℕ) (rest other : List ℕ) → behind ≡ c ∷ rest → F (before ++ (c ∷ other)) ≡ Broken byte
 
 abbrev pub StuckIf : (List ℕ → RowCut) → List ℕ → ℕ → RowCut → Type 0
@@ -43,6 +44,11 @@ StuckIf F bs i NoRow = Unit {0}
 StuckIf F bs i (Broken byte) = Stuck F bs i byte
 
 -- one byte more in front
+ends-later : (i n : ℕ) (cut : RowCut) {cut′ : RowCut} → cut′ ≡ cut → EndsAt (i + 1 + n) cut → EndsAt (i + suc n) cut′
+ends-later i n (Cut cells next) e h = rw e (h ∙ omega arith)
+ends-later i n NoRow e h = absurd h
+ends-later i n (Broken byte) e h = absurd h
+
 later : (F G : List ℕ → RowCut) (b : ℕ) (bs : List ℕ) (i : ℕ) (cut : RowCut) → ((xs : List ℕ) → F (b ∷ xs) ≡ G xs)
     → StuckIf G bs (i + 1) cut → StuckIf F (b ∷ bs) i cut
 later F G b bs i (Cut cells next) e s = tt
@@ -54,7 +60,7 @@ later F G b bs i (Broken byte) e s = record {
   place = s .place ∙ omega arith;
   mend = s .mend;
   some-mend = s .some-mend;
-  mended = rw (e (s .before ++ s .mend)) (s .mended);
+  mended = ends-later i (length (s .before ++ s .mend)) (G (s .before ++ s .mend)) (e (s .before ++ s .mend)) (s .mended);
   hopeless = λ c rest other h. e (s .before ++ (c ∷ other)) ∙ s .hopeless c rest other h;
 }
 
@@ -74,13 +80,13 @@ mend-some Shut = some
 mend-some Return = some
 
 module _ (k : Cell) (cells : Cells) (i : ℕ) where
-  mends : (mode : Mode) → IsCut (rowFrom mode k cells i (mendOf mode))
+  mends : (mode : Mode) → EndsAt (i + length (mendOf mode)) (rowFrom mode k cells i (mendOf mode))
   unfolding rowFrom moveOf bareMove shutMove
-  mends Fresh = tt
-  mends Bare = tt
-  mends Open = tt
-  mends Shut = tt
-  mends Return = tt
+  mends Fresh = omega arith
+  mends Bare = omega arith
+  mends Open = omega arith
+  mends Shut = omega arith
+  mends Return = omega arith
 
   -- broken at the very byte that comes, or at the sheet's end
   now : (mode : Mode) (bs : List ℕ) → ((c : ℕ) (rest other : List ℕ) → bs ≡ c ∷ rest → rowFrom mode k cells i (c ∷ other) ≡ Broken i)
