@@ -1,0 +1,7 @@
+-- The laws of `specs/Below.antt`, the loops' invariant, and the theorems of the rules and of the way out.
+pub mod Laws
+pub mod Scans
+pub mod Chain
+pub mod Ways
+pub mod Answers
+pub mod WayOut

@@ -1,0 +1,10 @@
+-- `in_range` meets its contract: it asks one test after the other. Assumes nothing.
+use Rattle.rules.specs.Tests.{inRange}
+use Rattle.rules.proofs.Chain.{chain}
+use Rattle.rules.proofs.in_range.Statement.{statement}
+use Rattle.rules.proofs.in_range.Tie as tie
+
+pub in-range-spec : {M : Type 1} → statement M
+unfolding inRange
+in-range-spec =
+    tie.close (tie.spec (λ c κs. search chain) (λ c. search chain) (λ c κs. search chain) (λ c. search chain) (λ c κs. search chain) (λ c. search chain))

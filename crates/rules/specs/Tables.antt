@@ -1,0 +1,31 @@
+-- How the tables of a site are read. 01, "The record": a table is a list of numbers, `getD table i 0` its entry at i; the
+-- rights are one flat list, 32 entries to a person.
+use Prim.Native.Nat.{ℕ, _+_, _*_}
+use mathlib.Core.Bool.{Bool, true, false}
+use mathlib.Core.List.{List}
+use lib.ListN.{getD}
+use lib.Dec.{ltb, eqb}
+
+-- 01, "The panel's part": "People number 1 to 64, locations 2 to 32, doors 0 to 64."
+abbrev pub mostPeople : ℕ
+mostPeople = 64
+
+abbrev pub mostLocations : ℕ
+mostLocations = 32
+
+abbrev pub mostDoors : ℕ
+mostDoors = 64
+
+-- the first test decides, and where it fails the second
+unfoldable pub orElse : Bool → Bool → Bool
+orElse true b = true
+orElse false b = b
+
+-- both tests hold
+unfoldable pub andAlso : Bool → Bool → Bool
+andAlso true b = b
+andAlso false b = false
+
+-- 01, "Site sheet": "person p may be in l. Location 0 is everybody's and has no row."
+unfoldable pub mayBe : List Bool → ℕ → ℕ → Bool
+mayBe right p l = orElse (eqb l 0) (andAlso (ltb l mostLocations) (getD right (p * mostLocations + l) false))

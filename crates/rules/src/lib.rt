@@ -1,0 +1,526 @@
+// The tables of a site, its rules, and the way out of a location.
+//
+// The tables are lent, never copied: `origin` and `destination` have an entry for each door, `exit`
+// one for each location, `right` 32 for each person. Past the end of a table an entry is 0, and a
+// right is not given. Location 0 is outside, and everybody's.
+ghost use mathlib.Core.Path.{_≡_};
+ghost use Prim.Native.Nat.{ℕ, _+_, _≤_};
+ghost use lib.ListN.{length, getD};
+ghost use lib.Seq.{sets};
+ghost use Rattle.rules.specs.Tables.{mayBe};
+ghost use Rattle.rules.specs.Below.{allBelow, someBelow, leastBelow, isNothing, noPair};
+ghost use Rattle.rules.specs.Way.{unvisited, wayOut, wayOf, told, written};
+ghost use Rattle.rules.specs.Tests.{doorFits, exitFits, countsFit, inRange, lacksExit, firstNoExit};
+ghost use Rattle.rules.specs.Tests.{strays, firstStray, joins, lacksDoor, firstNoDoor};
+ghost use Rattle.rules.specs.Tests.{lacksRight, firstNoRight, letsIn, shutOut, firstShutOut, lawfulB};
+
+// What a search over a table finds: the smallest offender, or none.
+pub enum Found {
+    At(usize),
+    Nothing,
+}
+
+// What the search over people and locations finds: the smallest person, then the location; or none.
+pub enum RightFound {
+    At { person: usize, location: usize },
+    Nothing,
+}
+
+// What is told of a way out: its length, or that the list lent for it is shorter (number 13).
+pub enum WayTold {
+    Length(usize),
+    TooShort,
+}
+
+// The most people, locations and doors that a site has.
+const MOST_PEOPLE: usize = 64;
+
+const MOST_LOCATIONS: usize = 32;
+
+const MOST_DOORS: usize = 64;
+
+// The entry of a table, and 0 past its end.
+fn entry(table: &[u8], at: usize) -> u8
+    ensures { λ r. ⌜ r ≡ getD (now (table .entry)) at 0 ⌝ }
+{
+    if at < table.len() {
+        return table[at];
+    }
+    0
+}
+
+// Whether a person may be in a location.
+pub fn may_be(right: &[bool], person: usize, location: usize) -> bool
+    ensures { λ r. ⌜ r ≡ mayBe (now (right .entry)) person location ⌝ }
+{
+    if location == 0 {
+        return true;
+    }
+    if MOST_LOCATIONS <= location {
+        return false;
+    }
+    if right.len() / MOST_LOCATIONS < person {
+        return false;
+    }
+    let at = person * MOST_LOCATIONS + location;
+    if at < right.len() {
+        return right[at];
+    }
+    false
+}
+
+// Rule 3: whether a door is from a location to another one.
+fn door_fits<'a>(locations: usize, origin: &'a [u8], destination: &'a [u8], door: usize) -> bool
+    ensures { λ r. ⌜ r ≡ doorFits locations (now (origin .entry)) (now (destination .entry)) door ⌝ }
+{
+    let from = entry(origin, door);
+    let to = entry(destination, door);
+    if locations <= from as usize {
+        return false;
+    }
+    if locations <= to as usize {
+        return false;
+    }
+    from != to
+}
+
+// Rule 3: whether every door fits.
+fn doors_fit<'a>(locations: usize, doors: usize, origin: &'a [u8], destination: &'a [u8]) -> bool
+    ensures { λ r. ⌜ r ≡ allBelow (doorFits locations (now (origin .entry)) (now (destination .entry))) doors ⌝ }
+{
+    let mut door = 0;
+    while door < doors {
+        if !door_fits(locations, origin, destination, door) {
+            return false;
+        }
+        door += 1;
+    }
+    true
+}
+
+// Rule 3: whether an exit is a location.
+fn exit_fits(locations: usize, exit: &[u8], location: usize) -> bool
+    ensures { λ r. ⌜ r ≡ exitFits locations (now (exit .entry)) location ⌝ }
+{
+    (entry(exit, location) as usize) < locations
+}
+
+// Rule 3: whether every exit fits.
+fn exits_fit(locations: usize, exit: &[u8]) -> bool
+    ensures { λ r. ⌜ r ≡ allBelow (exitFits locations (now (exit .entry))) locations ⌝ }
+{
+    let mut location = 0;
+    while location < locations {
+        if !exit_fits(locations, exit, location) {
+            return false;
+        }
+        location += 1;
+    }
+    true
+}
+
+// Rule 3: whether the counts are in their ranges.
+fn counts_fit(people: usize, locations: usize, doors: usize) -> bool
+    ensures { λ r. ⌜ r ≡ countsFit people locations doors ⌝ }
+{
+    if people < 1 {
+        return false;
+    }
+    if MOST_PEOPLE < people {
+        return false;
+    }
+    if locations < 2 {
+        return false;
+    }
+    if MOST_LOCATIONS < locations {
+        return false;
+    }
+    doors <= MOST_DOORS
+}
+
+// Rule 3: whether the counts are in their ranges, each door is from a location to another one, and
+// each exit is a location.
+pub fn in_range<'a>(
+    people: usize,
+    locations: usize,
+    doors: usize,
+    origin: &'a [u8],
+    destination: &'a [u8],
+    exit: &'a [u8],
+) -> bool
+    ensures { λ r. ⌜ r ≡ inRange people locations doors (now (origin .entry)) (now (destination .entry)) (now (exit .entry)) ⌝ }
+{
+    if !counts_fit(people, locations, doors) {
+        return false;
+    }
+    if !doors_fit(locations, doors, origin, destination) {
+        return false;
+    }
+    exits_fit(locations, exit)
+}
+
+// Rule 6: whether a location other than 0 has no exit. `given` marks those whose exit has come.
+fn lacks_exit(given: &[bool], location: usize) -> bool
+    ensures { λ r. ⌜ r ≡ lacksExit (now (given .entry)) location ⌝ }
+{
+    if location == 0 {
+        return false;
+    }
+    if location < given.len() {
+        return !given[location];
+    }
+    true
+}
+
+// Rule 6: the smallest location that has no exit.
+pub fn first_no_exit(locations: usize, given: &[bool]) -> Found
+    ensures { λ r. ⌜ r ≡ firstNoExit locations (now (given .entry)) ⌝ }
+{
+    let mut location = 0;
+    while location < locations {
+        if lacks_exit(given, location) {
+            return Found::At(location);
+        }
+        location += 1;
+    }
+    Found::Nothing
+}
+
+// The locations still unvisited when one stands in one of them.
+fn unvisited(locations: usize) -> usize
+    ensures { λ r. ⌜ r ≡ unvisited locations ⌝ }
+{
+    if locations == 0 {
+        return 0;
+    }
+    if MOST_LOCATIONS < locations {
+        return MOST_LOCATIONS - 1;
+    }
+    locations - 1
+}
+
+// The length of the way out of a location: its exit and the way out of that, nothing for location 0.
+fn way_length(left: usize, exit: &[u8], from: usize) -> usize
+    ensures { λ r. ⌜ r ≡ length (wayOut left (now (exit .entry)) from) ⌝ }
+{
+    if left == 0 {
+        return 0;
+    }
+    if from == 0 {
+        return 0;
+    }
+    way_length(left - 1, exit, entry(exit, from) as usize) + 1
+}
+
+// Writes the way out of a location into a list, from a place on.
+fn write_way<'a>(left: usize, exit: &'a [u8], from: usize, list: &'a mut [u8], at: usize)
+    requires { ⌜ at + length (wayOut left (now exit) from) ≤ length (now list) ⌝ }
+    ensures { λ _. ⌜ now (list .exit) ≡ sets (now (list .entry)) at (wayOut left (now (exit .entry)) from) ⌝ }
+{
+    if left == 0 {
+        return;
+    }
+    if from == 0 {
+        return;
+    }
+    let next = entry(exit, from);
+    list[at] = next;
+    write_way(left - 1, exit, next as usize, list, at + 1);
+}
+
+// The way out of a location, written into the front of the list that is lent for it, the rest of
+// the list unaltered. It is measured first: into a shorter list nothing is written.
+pub fn way_out<'a>(locations: usize, exit: &'a [u8], from: usize, list: &'a mut [u8]) -> WayTold
+    ensures told { λ r. ⌜ r ≡ told (wayOf locations (now (exit .entry)) from) (now (list .entry)) ⌝ }
+    ensures written { λ _. ⌜ now (list .exit) ≡ written (wayOf locations (now (exit .entry)) from) (now (list .entry)) ⌝ }
+{
+    let left = unvisited(locations);
+    let steps = way_length(left, exit, from);
+    if list.len() < steps {
+        return WayTold::TooShort;
+    }
+    write_way(left, exit, from, list, 0);
+    WayTold::Length(steps)
+}
+
+// Rule 7: whether the exits from a location never reach 0. With a step more than there are
+// locations unvisited, such a way takes them all.
+fn strays(locations: usize, exit: &[u8], location: usize) -> bool
+    ensures { λ r. ⌜ r ≡ strays locations (now (exit .entry)) location ⌝ }
+{
+    let left = unvisited(locations);
+    left < way_length(left + 1, exit, location)
+}
+
+// Rule 7: the smallest location from which exits never reach 0.
+pub fn first_stray(locations: usize, exit: &[u8]) -> Found
+    ensures { λ r. ⌜ r ≡ firstStray locations (now (exit .entry)) ⌝ }
+{
+    let mut location = 0;
+    while location < locations {
+        if strays(locations, exit, location) {
+            return Found::At(location);
+        }
+        location += 1;
+    }
+    Found::Nothing
+}
+
+// Whether a door is from one location to another.
+fn joins<'a>(origin: &'a [u8], destination: &'a [u8], from: usize, to: usize, door: usize) -> bool
+    ensures { λ r. ⌜ r ≡ joins (now (origin .entry)) (now (destination .entry)) from to door ⌝ }
+{
+    let start = entry(origin, door) as usize;
+    if start != from {
+        return false;
+    }
+    let end = entry(destination, door) as usize;
+    end == to
+}
+
+// Whether there is a door from one location to another.
+fn joined<'a>(doors: usize, origin: &'a [u8], destination: &'a [u8], from: usize, to: usize) -> bool
+    ensures { λ r. ⌜ r ≡ someBelow (joins (now (origin .entry)) (now (destination .entry)) from to) doors ⌝ }
+{
+    let mut door = 0;
+    while door < doors {
+        if joins(origin, destination, from, to, door) {
+            return true;
+        }
+        door += 1;
+    }
+    false
+}
+
+// Rule 8: whether a location other than 0 has no door to its exit.
+fn lacks_door<'a>(
+    doors: usize,
+    origin: &'a [u8],
+    destination: &'a [u8],
+    exit: &'a [u8],
+    location: usize,
+) -> bool
+    ensures { λ r. ⌜ r ≡ lacksDoor doors (now (origin .entry)) (now (destination .entry)) (now (exit .entry)) location ⌝ }
+{
+    if location == 0 {
+        return false;
+    }
+    let to = entry(exit, location) as usize;
+    !joined(doors, origin, destination, location, to)
+}
+
+// Rule 8: the smallest location that has no door to its exit.
+pub fn first_no_door<'a>(
+    locations: usize,
+    doors: usize,
+    origin: &'a [u8],
+    destination: &'a [u8],
+    exit: &'a [u8],
+) -> Found
+    ensures { λ r. ⌜ r ≡ firstNoDoor locations doors (now (origin .entry)) (now (destination .entry)) (now (exit .entry)) ⌝ }
+{
+    let mut location = 0;
+    while location < locations {
+        if lacks_door(doors, origin, destination, exit, location) {
+            return Found::At(location);
+        }
+        location += 1;
+    }
+    Found::Nothing
+}
+
+// Rule 9: whether a person has a right to a location other than 0, but not to its exit.
+fn lacks_right<'a>(exit: &'a [u8], right: &'a [bool], person: usize, location: usize) -> bool
+    ensures { λ r. ⌜ r ≡ lacksRight (now (exit .entry)) (now (right .entry)) person location ⌝ }
+{
+    if location == 0 {
+        return false;
+    }
+    if !may_be(right, person, location) {
+        return false;
+    }
+    let to = entry(exit, location) as usize;
+    !may_be(right, person, to)
+}
+
+// Rule 9: whether a person lacks a right to the exit of some location.
+fn lacks_some<'a>(locations: usize, exit: &'a [u8], right: &'a [bool], person: usize) -> bool
+    ensures { λ r. ⌜ r ≡ someBelow (lacksRight (now (exit .entry)) (now (right .entry)) person) locations ⌝ }
+{
+    let mut location = 0;
+    while location < locations {
+        if lacks_right(exit, right, person, location) {
+            return true;
+        }
+        location += 1;
+    }
+    false
+}
+
+// Rule 9: the smallest location to whose exit a person lacks the right.
+fn first_lacking<'a>(locations: usize, exit: &'a [u8], right: &'a [bool], person: usize) -> Found
+    ensures { λ r. ⌜ r ≡ leastBelow (lacksRight (now (exit .entry)) (now (right .entry)) person) locations ⌝ }
+{
+    let mut location = 0;
+    while location < locations {
+        if lacks_right(exit, right, person, location) {
+            return Found::At(location);
+        }
+        location += 1;
+    }
+    Found::Nothing
+}
+
+// Rule 9: the smallest person who lacks a right to the exit of some location.
+fn first_who_lacks<'a>(people: usize, locations: usize, exit: &'a [u8], right: &'a [bool]) -> Found
+    ensures { λ r. ⌜ r ≡ leastBelow (λ (p : ℕ). someBelow (lacksRight (now (exit .entry)) (now (right .entry)) p) locations) people ⌝ }
+{
+    let mut person = 0;
+    while person < people {
+        if lacks_some(locations, exit, right, person) {
+            return Found::At(person);
+        }
+        person += 1;
+    }
+    Found::Nothing
+}
+
+// Rule 9: the smallest person with a right to a location but not to its exit, then the location.
+pub fn first_no_right<'a>(
+    people: usize,
+    locations: usize,
+    exit: &'a [u8],
+    right: &'a [bool],
+) -> RightFound
+    ensures { λ r. ⌜ r ≡ firstNoRight people locations (now (exit .entry)) (now (right .entry)) ⌝ }
+{
+    let Found::At(person) = first_who_lacks(people, locations, exit, right) else {
+        return RightFound::Nothing;
+    };
+    let Found::At(location) = first_lacking(locations, exit, right, person) else {
+        return RightFound::Nothing;
+    };
+    RightFound::At { person, location }
+}
+
+// Whether a door leads a person from outside to a location that they may be in.
+fn lets_in<'a>(
+    origin: &'a [u8],
+    destination: &'a [u8],
+    right: &'a [bool],
+    person: usize,
+    door: usize,
+) -> bool
+    ensures { λ r. ⌜ r ≡ letsIn (now (origin .entry)) (now (destination .entry)) (now (right .entry)) person door ⌝ }
+{
+    let start = entry(origin, door);
+    if start != 0 {
+        return false;
+    }
+    let to = entry(destination, door) as usize;
+    may_be(right, person, to)
+}
+
+// Whether some door lets a person in.
+fn has_first<'a>(
+    doors: usize,
+    origin: &'a [u8],
+    destination: &'a [u8],
+    right: &'a [bool],
+    person: usize,
+) -> bool
+    ensures { λ r. ⌜ r ≡ someBelow (letsIn (now (origin .entry)) (now (destination .entry)) (now (right .entry)) person) doors ⌝ }
+{
+    let mut door = 0;
+    while door < doors {
+        if lets_in(origin, destination, right, person, door) {
+            return true;
+        }
+        door += 1;
+    }
+    false
+}
+
+// Rule 10: whether a person has no first location from outside.
+fn shut_out<'a>(
+    doors: usize,
+    origin: &'a [u8],
+    destination: &'a [u8],
+    right: &'a [bool],
+    person: usize,
+) -> bool
+    ensures { λ r. ⌜ r ≡ shutOut doors (now (origin .entry)) (now (destination .entry)) (now (right .entry)) person ⌝ }
+{
+    !has_first(doors, origin, destination, right, person)
+}
+
+// Rule 10: the smallest person who has no first location from outside.
+pub fn first_shut_out<'a>(
+    people: usize,
+    doors: usize,
+    origin: &'a [u8],
+    destination: &'a [u8],
+    right: &'a [bool],
+) -> Found
+    ensures { λ r. ⌜ r ≡ firstShutOut people doors (now (origin .entry)) (now (destination .entry)) (now (right .entry)) ⌝ }
+{
+    let mut person = 0;
+    while person < people {
+        if shut_out(doors, origin, destination, right, person) {
+            return Found::At(person);
+        }
+        person += 1;
+    }
+    Found::Nothing
+}
+
+// Whether a search found nothing.
+fn is_nothing(found: Found) -> bool
+    ensures { λ r. ⌜ r ≡ isNothing found ⌝ }
+{
+    match found {
+        Found::At(_) => false,
+        Found::Nothing => true,
+    }
+}
+
+// Whether the search over people and locations found nothing.
+fn no_pair(found: RightFound) -> bool
+    ensures { λ r. ⌜ r ≡ noPair found ⌝ }
+{
+    match found {
+        RightFound::At {
+            person: _,
+            location: _,
+        } => false,
+        RightFound::Nothing => true,
+    }
+}
+
+// Whether the tables of a record pass 3 and 7 to 10, each finished before the next. (In a record
+// every location has an exit, so that 6 asks nothing.)
+pub fn lawful<'a>(
+    people: usize,
+    locations: usize,
+    doors: usize,
+    origin: &'a [u8],
+    destination: &'a [u8],
+    exit: &'a [u8],
+    right: &'a [bool],
+) -> bool
+    ensures { λ r. ⌜ r ≡ lawfulB people locations doors (now (origin .entry)) (now (destination .entry)) (now (exit .entry)) (now (right .entry)) ⌝ }
+{
+    if !in_range(people, locations, doors, origin, destination, exit) {
+        return false;
+    }
+    if !is_nothing(first_stray(locations, exit)) {
+        return false;
+    }
+    if !is_nothing(first_no_door(locations, doors, origin, destination, exit)) {
+        return false;
+    }
+    if !no_pair(first_no_right(people, locations, exit, right)) {
+        return false;
+    }
+    is_nothing(first_shut_out(people, doors, origin, destination, right))
+}

@@ -1,0 +1,119 @@
+"""Holds the documents to the crates: each public function has its promise and two wrong answers, each name exists.
+
+Run it at the project's root (tests/run does). It reads text alone and proves nothing.
+"""
+import os
+import re
+import sys
+
+FUNCTION = re.compile(r"^\s*(?:#\[[^\]]*\]\s*)?pub\s+(?:extern\s+\"C\"\s+)?fn\s+([a-z_0-9]+)", re.M)
+OWNER = re.compile(r"^impl(?:<[^>]*>)?\s+([A-Za-z_0-9]+)", re.M)
+
+faults = []
+
+
+def read(*path):
+    with open(os.path.join(*path), encoding="utf-8") as file:
+        return file.read()
+
+
+def crates():
+    """The crates of crates.txt, each with those that it stands on."""
+    listed = {}
+    for line in read("crates.txt").splitlines():
+        line = line.split("#")[0].strip()
+        if line:
+            name, on = line.split(":")
+            listed[name.strip()] = on.split()
+    return listed
+
+
+def block_end(text, at):
+    """The place behind the block that begins at the first brace from `at` on."""
+    depth = 0
+    for i in range(text.index("{", at), len(text)):
+        depth += (text[i] == "{") - (text[i] == "}")
+        if depth == 0:
+            return i + 1
+    return len(text)
+
+
+def public_functions(crate):
+    """The public functions of a library, methods with the name of their type in front."""
+    folder = os.path.join("crates", crate, "src")
+    if not os.path.exists(os.path.join(folder, "lib.rt")):
+        return
+    for name in sorted(os.listdir(folder)):
+        text = read(folder, name)
+        owners = [(m.start(), block_end(text, m.end()), m.group(1)) for m in OWNER.finditer(text)]
+        for m in FUNCTION.finditer(text):
+            owner = [o + "::" for a, b, o in owners if a <= m.start() < b]
+            yield "".join(owner) + m.group(1)
+
+
+def rows(page, crate):
+    """The rows of the table under the heading of a crate: the function's name, and the row's last column."""
+    part = re.search(r"^## Crate `%s`$(.*?)(?=^## |\Z)" % crate, page, re.M | re.S)
+    if not part:
+        faults.append(f"docs/PROMISES.md has no heading for the crate {crate}")
+        return
+    for line in part.group(1).splitlines():
+        cells = [cell.strip() for cell in line.strip().strip("|").split(" | ")]
+        name = re.match(r"`([A-Za-z_:0-9]+)`", cells[0])
+        if line.startswith("|") and name:
+            yield name.group(1), cells[-1]
+
+
+def check_promises(listed):
+    page = read("docs", "PROMISES.md")
+    for crate in listed:
+        functions = list(public_functions(crate))
+        folder = os.path.join("crates", crate, "must-fail")
+        edits = {n[:-5] for n in os.listdir(folder)} if os.path.isdir(folder) else set()
+        named = set()
+        promised = {}
+        if functions:
+            promised = dict(rows(page, crate))
+        for name, last in promised.items():
+            wrong = set(re.findall(r"`([a-z_0-9]+)`", last)) & edits
+            named |= wrong
+            if name not in functions:
+                faults.append(f"docs/PROMISES.md names {crate}::{name}, which is not there")
+            if len(wrong) < 2:
+                faults.append(f"docs/PROMISES.md names fewer than two must-fail edits for {crate}::{name}")
+        for name in functions:
+            if name not in promised:
+                faults.append(f"docs/PROMISES.md does not name {crate}::{name}")
+        for edit in sorted(edits - set(re.findall(r"`([a-z_0-9]+)`", page))):
+            faults.append(f"docs/PROMISES.md does not name the must-fail edit {crate}/{edit}")
+
+
+def check_map(listed):
+    readme = read("README.md")
+    for crate in listed:
+        if f"`{crate}`" not in readme:
+            faults.append(f"README.md does not name the crate {crate}")
+
+
+def check_paths():
+    """Each path to a file of the project that a document writes in backticks is there (NAME stands for any crate)."""
+    pages = ["README.md"] + [os.path.join("docs", n) for n in sorted(os.listdir("docs")) if n.endswith(".md")]
+    for page in pages:
+        for path in re.findall(r"`((?:crates|docs|tests|bin|bench|examples|\.ci)/[A-Za-z_0-9./-]+)`", read(page)):
+            if "/NAME" not in path and not os.path.exists(path):
+                faults.append(f"{page} names {path}, which is not there")
+
+
+def main():
+    listed = crates()
+    check_promises(listed)
+    check_map(listed)
+    check_paths()
+    for fault in faults:
+        print(fault)
+    print(f"documents: {len(listed)} crates, {len(faults)} faults")
+    return 1 if faults else 0
+
+
+if __name__ == "__main__":
+    sys.exit(main())
