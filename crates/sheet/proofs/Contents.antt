@@ -15,7 +15,7 @@ use Rattle.sheet.specs.Say.{Digit, contentAt, isWord, numberAt, ProperNu
 use Rattle.sheet.proofs.Saying.{same-self, same-true, proper-read, read-proper}
 use Rattle.sheet.specs.declared.cut.Cell.{Cell}
 use Rattle.sheet.specs.declared.cut.Cells.{Cells}
-use Rattle.sheet.specs.Grammar.{pick, quote, comma, Field, bare, quoted, content, escape, fieldText, Row, only, _then_, rowText, fields}
+use Rattle.sheet.specs.Grammar.{quote, comma, Field, bare, quoted, content, escape, fieldText, Row, only, _then_, rowText, fields}
 use Rattle.sheet.specs.Cut.{pushed, noCells}
 use Rattle.sheet.specs.Where.{holdsQuote, cellOf, cellsOf, fieldOf, CellHolds, RowHolds}
 
@@ -147,11 +147,11 @@ by-quote P c with without = go (holdsQuote c) refl
     go false q = without q
 
 -- what a cell tells of its field: the content itself, or that it holds a quote
-data CellTells (s : List ℕ) (cell : Cell) (f : Field) : Type 0 where
+pub data CellTells (s : List ℕ) (cell : Cell) (f : Field) : Type 0 where
   whole : cell .doubled ≡ false → contentAt s cell ≡ content f → CellTells s cell f
   with-quote : cell .doubled ≡ true → holdsQuote (content f) ≡ true → CellTells s cell f
 
-tells : (s : List ℕ) {cell : Cell} (f : Field) → CellHolds s cell f → CellTells s cell f
+pub tells : (s : List ℕ) {cell : Cell} (f : Field) → CellHolds s cell f → CellTells s cell f
 unfolding cellOf
 tells s {cell} (bare c) h = whole (ap (λ (k : Cell). k .doubled) (h .is)) (body-there s (bare c) h)
 tells s {cell} (quoted c) h =
@@ -172,7 +172,7 @@ word-exact s {cell} f word h n = go (tells s f h)
     go (with-quote d q) = ((λ t. clash (sym (let z : false ≡ true = rw d at t in z))), (λ t. clash (sym q ∙ ap holdsQuote t ∙ n)))
 
 -- a digit is no quote
-digits-no-quote : (c : List ℕ) → ((i : ℕ) → i < length c → Digit (getD c i 0)) → holdsQuote c ≡ false
+pub digits-no-quote : (c : List ℕ) → ((i : ℕ) → i < length c → Digit (getD c i 0)) → holdsQuote c ≡ false
 unfolding holdsQuote
 digits-no-quote [] d = refl
 digits-no-quote (b ∷ c) d =

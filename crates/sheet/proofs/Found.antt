@@ -3,7 +3,7 @@
 -- Assumes nothing.
 use Prim.Native.Nat.{ℕ, _+_}
 use mathlib.Core.Path.{_≡_, refl, sym, ap, _∙_}
-use mathlib.Core.Bool.{Bool, true, false}
+use mathlib.Core.Bool.{Bool, true, false, cond}
 use mathlib.Core.List.{List, [], _∷_, _++_, append-assoc, append-nil}
 use lib.Dec.{eqb}
 use borrow.Author.Tests.{eqb-true, eqb-false}
@@ -17,11 +17,11 @@ use Rattle.sheet.specs.declared.cut.FieldCut.{FieldCut}
 use Rattle.sheet.specs.declared.cut.FieldCut.the-variants.{Next, Last, Fault}
 use Rattle.sheet.specs.declared.cut.RowCut.{RowCut}
 use Rattle.sheet.specs.declared.cut.RowCut.the-variants.{Cut, NoRow, Broken}
-use Rattle.sheet.specs.Grammar.{pick, quote, comma, cr, lf, Plain, AllPlain, none, more, Field, bare, quoted, Written, is-bare, is-quoted, escape, fieldText, Row, only, _then_, WrittenRow, written-only, written-then, rowText, RowAt, ended, last}
+use Rattle.sheet.specs.Grammar.{quote, comma, cr, lf, Plain, AllPlain, none, more, Field, bare, quoted, Written, is-bare, is-quoted, escape, fieldText, Row, only, _then_, WrittenRow, written-only, written-then, rowText, RowAt, ended, last}
 use Rattle.sheet.specs.Cut.{emptyAt, bareMove, shutMove, moveOf, after, endOf, fieldFrom, pushed, rowEnd, rowFrom}
 
 -- a choice has what both of its sides have
-either : {A : Type 0} (P : A → Type 0) {x y : A} (q : Bool) → (q ≡ true → P x) → (q ≡ false → P y) → P (pick q x y)
+either : {A : Type 0} (P : A → Type 0) {x y : A} (q : Bool) → (q ≡ true → P x) → (q ≡ false → P y) → P (cond q x y)
 either P true t f = t refl
 either P false t f = f refl
 
@@ -34,7 +34,7 @@ unfolding escape
 escape-snoc [] b = refl
 escape-snoc (a ∷ c) b = both (escape c) (escape (b ∷ [])) (eqb a quote) (escape-snoc c b)
   where
-    both : {l : List ℕ} (m t : List ℕ) (q : Bool) → l ≡ m ++ t → pick q (quote ∷ a ∷ l) (a ∷ l) ≡ pick q (quote ∷ a ∷ m) (a ∷ m) ++ t
+    both : {l : List ℕ} (m t : List ℕ) (q : Bool) → l ≡ m ++ t → cond q (quote ∷ a ∷ l) (a ∷ l) ≡ cond q (quote ∷ a ∷ m) (a ∷ m) ++ t
     both m t true e = rw e
     both m t false e = rw e
 

@@ -5,14 +5,13 @@ use native.Mathlib.Nat.{pow-suc, pow-le-pow-right, zero-add}
 use native.Mathlib.Numerals.{add-one}
 use native.Mathlib.Omega.{arith}
 use mathlib.Core.Path.{_≡_, refl, sym, ap, ap₂, _∙_}
-use mathlib.Core.Bool.{Bool, true, false}
+use mathlib.Core.Bool.{Bool, true, false, cond}
 use mathlib.Core.List.{List, [], _∷_}
 use lib.ListN.{length, getD, drop, drop-of-length-le}
 use lib.Dec.{ltb, eqb}
 use borrow.Author.Tests.{ltb-true, ltb-false, le-ltb, lt-ltb, eqb-true, eqb-false, eq-eqb, ne-eqb}
 use Rattle.sheet.specs.declared.say.Number.{Number}
 use Rattle.sheet.specs.declared.say.Number.the-variants.{Is, None}
-use Rattle.sheet.specs.Grammar.{pick}
 use Rattle.sheet.specs.Say.{width, Digit, valueFrom, ProperNumber, sameBytes, digitsFrom, needlessZero, numberOf}
 use Rattle.sheet.proofs.Steps.{here}
 
@@ -51,7 +50,7 @@ pub record SameSoFar (a b : List ℕ) (i : ℕ) : Type 0 where
   pub within : i ≤ length a
 
 module _ {a b : List ℕ} {i : ℕ} (so : SameSoFar a b i) where
-  pub same-turn : i < length a → sameBytes a b ≡ pick (eqb (getD a i 0) (getD b i 0)) (sameBytes (drop (i + 1) a) (drop (i + 1) b)) false
+  pub same-turn : i < length a → sameBytes a b ≡ cond (eqb (getD a i 0) (getD b i 0)) (sameBytes (drop (i + 1) a) (drop (i + 1) b)) false
   unfolding sameBytes
   same-turn h =
       let k : i < length b = rw (so .long) at h in
@@ -89,7 +88,7 @@ module _ {c : List ℕ} {value i : ℕ} (so : DigitsSoFar c value i) where
       omega arith
 
   pub digits-turn : i < length c
-      → digitsFrom 0 c ≡ pick (ltb (getD c i 0) 48) None (pick (ltb 57 (getD c i 0)) None (digitsFrom (value * 10 + (getD c i 0 - 48)) (drop (i + 1) c)))
+      → digitsFrom 0 c ≡ cond (ltb (getD c i 0) 48) None (cond (ltb 57 (getD c i 0)) None (digitsFrom (value * 10 + (getD c i 0 - 48)) (drop (i + 1) c)))
   unfolding digitsFrom
   digits-turn h = so .answer ∙ rw (here c i h)
 
@@ -151,7 +150,7 @@ needless-none : (c : List ℕ) → (getD c 0 0 ≡ 48 → length c ≤ 1) → ne
 unfolding needlessZero
 needless-none c h = go (ltb (length c) 2) refl
   where
-    go : (q : Bool) → ltb (length c) 2 ≡ q → pick (ltb (length c) 2) false (eqb (getD c 0 0) 48) ≡ false
+    go : (q : Bool) → ltb (length c) 2 ≡ q → cond (ltb (length c) 2) false (eqb (getD c 0 0) 48) ≡ false
     go true q = rw q
     go false q = let l = ltb-false (length c) 2 q in rw q (ne-eqb _ _ (λ e. let m = h e in omega arith))
 

@@ -4,7 +4,7 @@ use Prim.Native.Nat.{ℕ, suc, _+_}
 use native.Mathlib.Nat.{add-zero, add-assoc}
 use native.Mathlib.Omega.{arith}
 use mathlib.Core.Path.{_≡_, refl, ap, sym, _∙_}
-use mathlib.Core.Bool.{Bool, true, false}
+use mathlib.Core.Bool.{Bool, true, false, cond}
 use mathlib.Core.List.{List, [], _∷_, _++_, append-assoc}
 use lib.ListN.{length, length-append}
 use lib.Dec.{eqb}
@@ -16,7 +16,7 @@ use Rattle.sheet.specs.declared.cut.Cells.{Cells}
 use Rattle.sheet.specs.declared.cut.Move.the-variants.{Go}
 use Rattle.sheet.specs.declared.cut.FieldCut.the-variants.{Next, Last}
 use Rattle.sheet.specs.declared.cut.RowCut.the-variants.{Cut}
-use Rattle.sheet.specs.Grammar.{pick, quote, comma, cr, lf, Plain, AllPlain, none, more, Field, bare, quoted, Written, is-bare, is-quoted, escape, fieldText, Row, only, _then_, WrittenRow, written-only, written-then, rowText}
+use Rattle.sheet.specs.Grammar.{quote, comma, cr, lf, Plain, AllPlain, none, more, Field, bare, quoted, Written, is-bare, is-quoted, escape, fieldText, Row, only, _then_, WrittenRow, written-only, written-then, rowText}
 use Rattle.sheet.specs.Cut.{upTo, emptyAt, bareMove, shutMove, moveOf, fieldFrom, endOf, pushed, rowFrom}
 use Rattle.sheet.specs.Where.{holdsQuote, cellOf, cellsOf}
 
@@ -50,14 +50,14 @@ open-other k b next e = rw e
 -- whether a quote has come, or comes in this content
 doubledBy : Bool → List ℕ → Bool
 doubledBy d [] = d
-doubledBy d (b ∷ bs) = doubledBy (pick (eqb b quote) true d) bs
+doubledBy d (b ∷ bs) = doubledBy (cond (eqb b quote) true d) bs
 
 doubled-stays : (c : List ℕ) → doubledBy true c ≡ true
 unfolding doubledBy
 doubled-stays [] = refl
 doubled-stays (b ∷ c) = rw (either (eqb b quote)) (doubled-stays c)
   where
-    either : (q : Bool) → pick q true true ≡ true
+    either : (q : Bool) → cond q true true ≡ true
     either true = refl
     either false = refl
 
@@ -66,7 +66,7 @@ unfolding doubledBy holdsQuote
 doubled-holds [] = refl
 doubled-holds (b ∷ c) = either (eqb b quote) (doubled-holds c)
   where
-    either : (q : Bool) → doubledBy false c ≡ holdsQuote c → doubledBy (pick q true false) c ≡ pick q true (holdsQuote c)
+    either : (q : Bool) → doubledBy false c ≡ holdsQuote c → doubledBy (cond q true false) c ≡ cond q true (holdsQuote c)
     either true e = doubled-stays c
     either false e = e
 

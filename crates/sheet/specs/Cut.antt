@@ -1,10 +1,10 @@
 -- What the cutters answer, worked out byte by byte. That this is what the grammar says is proved in proofs/Theorems.antt.
 use Prim.Native.Nat.{ℕ, _+_}
-use mathlib.Core.Bool.{Bool, true, false}
+use mathlib.Core.Bool.{Bool, true, false, cond}
 use mathlib.Core.List.{List, [], _∷_}
 use lib.ListN.{length, getD, drop}
 use lib.Dec.{ltb, eqb}
-use Rattle.sheet.specs.Grammar.{pick, quote, comma, cr, lf}
+use Rattle.sheet.specs.Grammar.{quote, comma, cr, lf}
 use Rattle.sheet.specs.declared.cut.Mode.{Mode}
 use Rattle.sheet.specs.declared.cut.Mode.the-variants.{Fresh, Bare, Open, Shut, Return}
 use Rattle.sheet.specs.declared.cut.Cell.{Cell}
@@ -26,17 +26,17 @@ upTo cell next doubled = record { start = cell .start; end = next; doubled = dou
 
 -- what a byte does in each mode; the byte behind it is at `next`
 unfoldable pub bareMove : Cell → ℕ → ℕ → Move
-bareMove cell b next = pick (eqb b comma) NextField (pick (eqb b cr) (Go Return cell) (pick (eqb b lf) Wrong (Go Bare (upTo cell next false))))
+bareMove cell b next = cond (eqb b comma) NextField (cond (eqb b cr) (Go Return cell) (cond (eqb b lf) Wrong (Go Bare (upTo cell next false))))
 
 unfoldable pub shutMove : Cell → ℕ → ℕ → Move
-shutMove cell b next = pick (eqb b quote) (Go Open (upTo cell next true)) (pick (eqb b comma) NextField (pick (eqb b cr) (Go Return cell) Wrong))
+shutMove cell b next = cond (eqb b quote) (Go Open (upTo cell next true)) (cond (eqb b comma) NextField (cond (eqb b cr) (Go Return cell) Wrong))
 
 unfoldable pub moveOf : Mode → Cell → ℕ → ℕ → Move
-moveOf Fresh cell b next = pick (eqb b quote) (Go Open (emptyAt next)) (bareMove cell b next)
-moveOf Bare cell b next = pick (eqb b quote) Wrong (bareMove cell b next)
-moveOf Open cell b next = pick (eqb b quote) (Go Shut cell) (Go Open (upTo cell next (cell .doubled)))
+moveOf Fresh cell b next = cond (eqb b quote) (Go Open (emptyAt next)) (bareMove cell b next)
+moveOf Bare cell b next = cond (eqb b quote) Wrong (bareMove cell b next)
+moveOf Open cell b next = cond (eqb b quote) (Go Shut cell) (Go Open (upTo cell next (cell .doubled)))
 moveOf Shut cell b next = shutMove cell b next
-moveOf Return cell b next = pick (eqb b lf) RowEnd Wrong
+moveOf Return cell b next = cond (eqb b lf) RowEnd Wrong
 
 -- a field that the sheet ends in
 unfoldable pub endOf : Mode → Cell → ℕ → FieldCut
@@ -65,9 +65,9 @@ cutField s at = fieldFrom Fresh (emptyAt at) at (drop at s)
 unfoldable pub pushed : Cells → Cell → Cells
 pushed cells cell = record {
   count = cells .count + 1;
-  first = pick (eqb (cells .count) 0) cell (cells .first);
-  second = pick (eqb (cells .count) 1) cell (cells .second);
-  third = pick (eqb (cells .count) 2) cell (cells .third);
+  first = cond (eqb (cells .count) 0) cell (cells .first);
+  second = cond (eqb (cells .count) 1) cell (cells .second);
+  third = cond (eqb (cells .count) 2) cell (cells .third);
 }
 
 abbrev pub noCells : Cells
@@ -87,4 +87,4 @@ rowFrom mode cell cells i (b ∷ bs) =
     (Cut (pushed cells cell) (i + 1)) (Broken i)
 
 unfoldable pub cutRow : List ℕ → ℕ → RowCut
-cutRow s at = pick (ltb at (length s)) (rowFrom Fresh (emptyAt at) noCells at (drop at s)) NoRow
+cutRow s at = cond (ltb at (length s)) (rowFrom Fresh (emptyAt at) noCells at (drop at s)) NoRow

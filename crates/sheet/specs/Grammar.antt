@@ -2,14 +2,9 @@
 -- sheet is read.
 use Prim.Native.Nat.{ℕ}
 use mathlib.Core.Path.{_≡_}
-use mathlib.Core.Bool.{Bool, true, false}
+use mathlib.Core.Bool.{Bool, true, false, cond}
 use mathlib.Core.List.{List, [], _∷_, _++_}
 use lib.Dec.{eqb}
-
--- a choice by a test
-abbrev pub pick {ℓ} : {A : Type ℓ} → Bool → A → A → A
-pick true a b = a
-pick false a b = b
 
 -- the four bytes that RFC 4180 sets apart
 abbrev pub quote : ℕ
@@ -53,7 +48,7 @@ content (quoted c) = c
 -- RFC 4180, 2.7: a quote inside a quoted field is "escaped by preceding it with another double quote"
 unfoldable pub escape : List ℕ → List ℕ
 escape [] = []
-escape (b ∷ bs) = pick (eqb b quote) (quote ∷ b ∷ escape bs) (b ∷ escape bs)
+escape (b ∷ bs) = cond (eqb b quote) (quote ∷ b ∷ escape bs) (b ∷ escape bs)
 
 -- the bytes of a field
 unfoldable pub fieldText : Field → List ℕ

@@ -1,14 +1,13 @@
 -- What a field says, by its content: a word, or a proper number. 01, "Site sheet".
 use Prim.Native.Nat.{ℕ, _+_, _-_, _*_, _≤_, _<_}
 use mathlib.Core.Path.{_≡_}
-use mathlib.Core.Bool.{Bool, true, false}
+use mathlib.Core.Bool.{Bool, true, false, cond}
 use mathlib.Core.List.{List, [], _∷_}
 use lib.ListN.{length, getD, take, drop}
 use lib.Dec.{leb, ltb, eqb}
 use Rattle.sheet.specs.declared.cut.Cell.{Cell}
 use Rattle.sheet.specs.declared.say.Number.{Number}
 use Rattle.sheet.specs.declared.say.Number.the-variants.{Is, None}
-use Rattle.sheet.specs.Grammar.{pick}
 
 -- "A number is 1 to 3 digits with no needless leading zero."
 abbrev pub width : ℕ
@@ -33,29 +32,29 @@ pub record ProperNumber (c : List ℕ) (n : ℕ) : Type 0 where
 -- the same as a test
 unfoldable pub digitsFrom : ℕ → List ℕ → Number
 digitsFrom n [] = Is n
-digitsFrom n (b ∷ bs) = pick (ltb b 48) None (pick (ltb 57 b) None (digitsFrom (n * 10 + (b - 48)) bs))
+digitsFrom n (b ∷ bs) = cond (ltb b 48) None (cond (ltb 57 b) None (digitsFrom (n * 10 + (b - 48)) bs))
 
 unfoldable pub needlessZero : List ℕ → Bool
-needlessZero c = pick (ltb (length c) 2) false (eqb (getD c 0 0) 48)
+needlessZero c = cond (ltb (length c) 2) false (eqb (getD c 0 0) 48)
 
 unfoldable pub numberOf : List ℕ → Number
-numberOf c = pick (eqb (length c) 0) None (pick (ltb width (length c)) None (pick (needlessZero c) None (digitsFrom 0 c)))
+numberOf c = cond (eqb (length c) 0) None (cond (ltb width (length c)) None (cond (needlessZero c) None (digitsFrom 0 c)))
 
 -- the bytes of a cell; none where it doesn't lie in the sheet
 unfoldable pub contentAt : List ℕ → Cell → List ℕ
 contentAt s cell =
-    pick (leb (cell .start) (cell .end))
-    (pick (leb (cell .end) (length s)) (take (cell .end - cell .start) (drop (cell .start) s)) []) []
+    cond (leb (cell .start) (cell .end))
+    (cond (leb (cell .end) (length s)) (take (cell .end - cell .start) (drop (cell .start) s)) []) []
 
 unfoldable pub sameBytes : List ℕ → List ℕ → Bool
 sameBytes [] [] = true
 sameBytes [] (y ∷ ys) = false
 sameBytes (x ∷ xs) [] = false
-sameBytes (x ∷ xs) (y ∷ ys) = pick (eqb x y) (sameBytes xs ys) false
+sameBytes (x ∷ xs) (y ∷ ys) = cond (eqb x y) (sameBytes xs ys) false
 
 -- a field with a doubled quote in it is no word and no number
 unfoldable pub isWord : List ℕ → Cell → List ℕ → Bool
-isWord s cell word = pick (cell .doubled) false (sameBytes (contentAt s cell) word)
+isWord s cell word = cond (cell .doubled) false (sameBytes (contentAt s cell) word)
 
 unfoldable pub numberAt : List ℕ → Cell → Number
-numberAt s cell = pick (cell .doubled) None (numberOf (contentAt s cell))
+numberAt s cell = cond (cell .doubled) None (numberOf (contentAt s cell))

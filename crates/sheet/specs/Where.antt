@@ -1,19 +1,19 @@
 -- Where the fields of a written row lie in a sheet: the cells that a cutter tells of it.
 use Prim.Native.Nat.{ℕ, _+_, _≤_}
 use mathlib.Core.Path.{_≡_}
-use mathlib.Core.Bool.{Bool, true, false}
+use mathlib.Core.Bool.{Bool, true, false, cond}
 use mathlib.Core.List.{List, [], _∷_, _++_}
 use lib.ListN.{length, getD, drop}
 use lib.Dec.{eqb}
 use Rattle.sheet.specs.declared.cut.Cell.{Cell}
 use Rattle.sheet.specs.declared.cut.Cells.{Cells}
-use Rattle.sheet.specs.Grammar.{pick, quote, Field, bare, quoted, escape, fieldText, Row, only, _then_, fields}
+use Rattle.sheet.specs.Grammar.{quote, Field, bare, quoted, escape, fieldText, Row, only, _then_, fields}
 use Rattle.sheet.specs.Cut.{pushed}
 
 -- the content holds a quote, which is doubled where the field is written
 unfoldable pub holdsQuote : List ℕ → Bool
 holdsQuote [] = false
-holdsQuote (b ∷ bs) = pick (eqb b quote) true (holdsQuote bs)
+holdsQuote (b ∷ bs) = cond (eqb b quote) true (holdsQuote bs)
 
 -- the cell of a field that begins at byte i: a bare field's content is its bytes, a quoted field's lies between the quotes
 unfoldable pub cellOf : ℕ → Field → Cell
