@@ -75,7 +75,7 @@ def check_promises(listed):
         if functions:
             promised = dict(rows(page, crate))
         for name, last in promised.items():
-            wrong = set(re.findall(r"`([a-z_0-9]+)`", last)) & edits
+            wrong = set(re.findall(r"`([A-Za-z_0-9]+)`", last)) & edits
             named |= wrong
             if name not in functions:
                 faults.append(f"docs/PROMISES.md names {crate}::{name}, which is not there")
@@ -84,7 +84,7 @@ def check_promises(listed):
         for name in functions:
             if name not in promised:
                 faults.append(f"docs/PROMISES.md does not name {crate}::{name}")
-        for edit in sorted(edits - set(re.findall(r"`([a-z_0-9]+)`", page))):
+        for edit in sorted(edits - set(re.findall(r"`([A-Za-z_0-9]+)`", page))):
             faults.append(f"docs/PROMISES.md does not name the must-fail edit {crate}/{edit}")
 
 

@@ -1,0 +1,138 @@
+-- Which event a step stands for, what a decision tells, the fresh record, and that no door is stuck. Assumes nothing.
+use Prim.Native.Nat.{ℕ, _<_}
+use mathlib.Core.Path.{_≡_, refl, sym, subst, ap, _∙_}
+use mathlib.Core.Bool.{Bool, true, false, false≢true}
+use mathlib.Core.Logic.{_⊎_, inl, inr, ⊎-elim}
+use mathlib.Core.List.{List}
+use native.Mathlib.Omega.{arith}
+use borrow.Author.Tests.{eqb-true, eq-eqb}
+use lib.ListN.{getD}
+use Rattle.rules.specs.Tables.{orElse, andAlso}
+use Rattle.record.specs.declared.record.Door.{Door}
+use Rattle.record.specs.declared.record.Record.{Record}
+use Rattle.record.specs.declared.table.Kind.{Kind}
+use Rattle.record.specs.declared.table.Kind.the-variants.{Decide}
+use Rattle.record.specs.declared.steps.Answer.the-variants.{Done}
+use Rattle.record.specs.Phase.{free, read, grants, keeps}
+use Rattle.record.specs.Doors.{freshRecord, Shaped}
+use Rattle.record.specs.Kinds.{allows, numberOfKind}
+use Rattle.record.specs.Sound.{Sound}
+use Rattle.record.specs.Steps.{First, stepOf}
+use Rattle.record.proofs.Cases.{same-or-not}
+use Rattle.record.proofs.Laws.{Allowed, done-did, denied-first}
+use Rattle.record.proofs.Fresh.{fresh-free, fresh-outside}
+use Rattle.chapter.specs.Sets.{dom, _∪_}
+use Rattle.chapter.specs.M3 as m3
+use Rattle.chapter.specs.M3.{Maps, dap, mCard}
+use Rattle.chapter.specs.M4 as m4
+use Rattle.chapter.specs.M4.{Sets, mAckn}
+use Rattle.chapter.specs.M4.{Event, CARD, pass, ACCEPT, off-grn, REFUSE, off-red, ACKN}
+use Rattle.chapter.specs.Reading.{constantsOf, isIn, DoorIn, CardAt, stateOf, stateOf3, StandsFor, Enabled, Idle, FirstFailing}
+use Rattle.chapter.specs.Reading.{card, grant, denial, green-order, walk, expiry, passage, lapse, red-order, dimming, darkness, acknowledgement}
+use Rattle.chapter.proofs.Invariants.{in-BLR, in-grn, grants-of, blocked, four}
+use Rattle.chapter.proofs.Turn.{each}
+use Rattle.chapter.proofs.Steps.{does, enabled}
+
+-- ---- which event a step stands for
+
+-- an enabled event that a step stands for is the only one
+pub stands-once : (r : Record) (k : Kind) (d p : ℕ) (e f : Event) → StandsFor r d p k e → m4.Guard (constantsOf r) (stateOf r) e
+    → StandsFor r d p k f → m4.Guard (constantsOf r) (stateOf r) f → e ≡ f
+stands-once r k d p e f card g card h = refl
+stands-once r k d p e f grant g grant h = refl
+stands-once r k d p e f grant g denial h = absurd (h .1 (g .1))
+stands-once r k d p e f denial g grant h = absurd (g .1 (h .1))
+stands-once r k d p e f denial g denial h = refl
+stands-once r k d p e f green-order g green-order h = refl
+stands-once r k d p e f walk g walk h = refl
+stands-once r k d p e f (expiry a b) g (expiry x y) h = refl
+stands-once r k d p e f (expiry a b) g (dimming x y) h = absurd (omega arith)
+stands-once r k d p e f (dimming a b) g (expiry x y) h = absurd (omega arith)
+stands-once r k d p e f (dimming a b) g (dimming x y) h = refl
+stands-once r k d p e f passage g passage h = refl
+stands-once r k d p e f lapse g lapse h = refl
+stands-once r k d p e f red-order g red-order h = refl
+stands-once r k d p e f darkness g darkness h = refl
+stands-once r k d p e f acknowledgement g acknowledgement h = refl
+
+-- a tick that is idle stands for none
+pub idle-stands : (r : Record) (k : Kind) (d p : ℕ) (e : Event) → Idle r k d → StandsFor r d p k e → ⊥
+idle-stands r k d p e i card = omega (arith, ap numberOfKind (i .tick))
+idle-stands r k d p e i grant = omega (arith, ap numberOfKind (i .tick))
+idle-stands r k d p e i denial = omega (arith, ap numberOfKind (i .tick))
+idle-stands r k d p e i green-order = omega (arith, ap numberOfKind (i .tick))
+idle-stands r k d p e i walk = omega (arith, ap numberOfKind (i .tick))
+idle-stands r k d p e i (expiry at last) = omega (arith, i .green-on at)
+idle-stands r k d p e i passage = omega (arith, ap numberOfKind (i .tick))
+idle-stands r k d p e i lapse = omega (arith, ap numberOfKind (i .tick))
+idle-stands r k d p e i red-order = omega (arith, ap numberOfKind (i .tick))
+idle-stands r k d p e i (dimming at last) = omega (arith, i .red-on at)
+idle-stands r k d p e i darkness = omega (arith, ap numberOfKind (i .tick))
+idle-stands r k d p e i acknowledgement = omega (arith, ap numberOfKind (i .tick))
+
+-- ---- at every door some event is enabled
+
+pub some-event : (r : Record) → Shaped r → Sound r → (d : ℕ) → d < r .doors → (e : Event) × m4.Guard (constantsOf r) (stateOf r) e
+unfolding isIn allows
+some-event r sh s d h = ⊎-elim (λ is. (CARD 0 d, (s .tables .in-range .people-from, h, λ b. in-BLR r d b is))) (λ is-not. go (four r d s (blocked r d h is-not))) (same-or-not (getD (r .phase) d 0) free)
+  where
+    decides : Enabled r Decide d 0 ⊎ Idle r Decide d → (e : Event) × m4.Guard (constantsOf r) (stateOf r) e
+    decides (inl e) = (e .event, e .guard)
+    decides (inr i) = absurd (omega (arith, ap numberOfKind (i .tick)))
+
+    go : (dom (CardAt r) ∪ stateOf3 r .set m3.grn ∪ stateOf3 r .set m3.red ∪ DoorIn r mAckn) d → (e : Event) × m4.Guard (constantsOf r) (stateOf r) e
+    go (inl x) = decides (enabled r sh s d 0 Decide (does r sh s d 0 Decide h (λ e. absurd (false≢true e)) (eq-eqb _ _ (x .1 .phase))))
+    go (inr (inl (inl x))) = (ACCEPT d, x)
+    go (inr (inl (inr (inl x)))) =
+        let g = grants-of r d (in-grn r d (inr (inl x))) in
+        (pass (getD (r .holder) d 0) d, (x, record { exists = h; holds = g; person = refl }))
+    go (inr (inl (inr (inr x)))) = (off-grn d, x)
+    go (inr (inr (inl (inl x)))) = (REFUSE d, x)
+    go (inr (inr (inl (inr x)))) = (off-red d, x)
+    go (inr (inr (inr x))) = (ACKN d, x)
+
+-- ---- the fresh record
+
+module _ (people locations doors : ℕ) (origin destination exit : List ℕ) (right : List Bool) where
+  none-in : (X : Sets) → isIn X free ≡ false
+  unfolding isIn orElse
+  none-in = each _ refl refl refl refl refl refl refl refl refl
+
+  pub fresh-starts : m4.Start (constantsOf (freshRecord people locations doors origin destination exit right)) (stateOf (freshRecord people locations doors origin destination exit right))
+  unfolding grants andAlso
+  fresh-starts =
+      record {
+        sit = λ p _. fresh-outside people locations doors origin destination exit right p;
+        sets = λ X d i. false≢true (sym (none-in X) ∙ subst (λ (x : ℕ). isIn X x ≡ true) (at d) (i .phase));
+        maps = maps;
+      }
+    where
+      at : (d : ℕ) → getD (freshRecord people locations doors origin destination exit right .phase) d 0 ≡ free
+      at d = ap (λ (x : Door). x .phase) (fresh-free people locations doors origin destination exit right d)
+
+      maps : (f : Maps) (x y : ℕ) → stateOf (freshRecord people locations doors origin destination exit right) .map f x y → ⊥
+      maps dap x y g = false≢true (subst (λ (z : ℕ). grants z ≡ true) (at y) (g .holds))
+      maps mCard x y g = omega (arith, sym (at x) ∙ g .phase)
+
+-- ---- what a decision tells
+
+pub first-failing : (r : Record) → Sound r → (d p : ℕ) → stepOf r Decide d p .answer ≡ Done
+    → FirstFailing (constantsOf r) (stateOf r) (getD (r .holder) d 0) d (stepOf r Decide d p .reason)
+unfolding allows keeps andAlso
+first-failing r s d p done = go (denied-first r d p done)
+  where
+    w : Allowed r Decide d p
+    w = done-did r Decide d p done .0
+
+    person : getD (r .holder) d 0 < r .people
+    person = s .doors d (w .a-door) .held (rw (eqb-true (getD (r .phase) d 0) read (w .allowed)))
+
+    inside : getD (r .destination) d 0 < r .locations
+    inside = s .tables .in-range .destinations d (w .a-door)
+
+    go : {n : ℕ} → First r d (getD (r .holder) d 0) n → FirstFailing (constantsOf r) (stateOf r) (getD (r .holder) d 0) d n
+    go (First.none a) =
+        FirstFailing.none (record { situated = a .at-origin; authorized = (person, inside, a .has-right); uninvolved = λ g. a .no-grant (g .0) (g .1) })
+    go (First.away ne) = FirstFailing.situated ne
+    go (First.barred at no-right) = FirstFailing.authorized at (λ a. false≢true (sym no-right ∙ a .2))
+    go (First.busy at may e g) = FirstFailing.uninvolved at (person, inside, may) (e, g)

@@ -1,0 +1,170 @@
+-- The theorems about the panel and the chapter, by name. A record is shaped (its lists are as long as its arrays) and sound.
+-- `constantsOf r` are the chapter's constants in its tables, `stateOf r` is its reading as a state of the fourth refinement.
+--     fresh-reads                                     the fresh record reads as the initial state
+--     step-acts, step-follows, tick-idles,            each step acts exactly when its event may, and does what the event does
+--     refusal-alters-nothing, stands-for-one, idle-stands-for-none
+--     denial-first                                    the reason told is the first conjunct that fails
+--     constants-obey, invariants-hold                 every axiom and every invariant holds of every sound record
+--     the-chapter                                     each machine keeps its invariants and refines the one before
+--     starts-each                                     the initial state is seen as that of each machine before
+--     panel-runs                                      a run of the panel is a run of each machine, down to the initial model
+--     nobody-astray                                   FUN-3
+--     nobody-blocked, nobody-confined, led-outside    SAF-1 to SAF-3
+--     pass-goes-on                                    the first refinement never comes to a halt
+--     everybody-gets-in                               axm1-7
+--     open-for-one                                    FUN-4: a turnstile is open for one accepted person and else blocked
+--     no-door-stuck                                   at every door some event is enabled
+-- Assumes nothing.
+use Prim.Native.Nat.{ℕ}
+use mathlib.Core.Path.{_≡_, subst}
+use mathlib.Core.Bool.{Bool}
+use mathlib.Core.Logic.{_⊎_, inl, ⊎-elim, _↔_}
+use mathlib.Core.List.{List}
+use lib.ListN.{getD}
+use Rattle.rules.specs.Way.{wayOf}
+use Rattle.record.specs.declared.record.Record.{Record}
+use Rattle.record.specs.declared.table.Kind.{Kind}
+use Rattle.record.specs.declared.table.Kind.the-variants.{Decide}
+use Rattle.record.specs.declared.steps.Answer.the-variants.{Done}
+use Rattle.record.specs.Doors.{Tables, freshRecord, Shaped}
+use Rattle.record.specs.Sound.{Sound}
+use Rattle.record.specs.Steps.{stepOf}
+use Rattle.record.specs.Run.{Row, lastOf}
+use Rattle.record.proofs.Laws.{refused-stays}
+use Rattle.chapter.specs.Context.{Constants, Axioms, SAF-1, SAF-2, SAF-3, Leads}
+use Rattle.chapter.specs.Machines.{State, Same}
+use Rattle.chapter.specs.Whole.{Chapter}
+use Rattle.chapter.specs.M0 as m0
+use Rattle.chapter.specs.M1 as m1
+use Rattle.chapter.specs.M2 as m2
+use Rattle.chapter.specs.M3 as m3
+use Rattle.chapter.specs.M3.{dap}
+use Rattle.chapter.specs.M4 as m4
+use Rattle.chapter.specs.Reading.{siteOf, constantsOf, stateOf, StandsFor, Enabled, Idle, FirstFailing, RunOfEach}
+use Rattle.chapter.proofs.Site.{axioms, saf-1, saf-2, saf-3, way-leads}
+use Rattle.chapter.proofs.Steps.{follows, enabled, ticks}
+use Rattle.chapter.proofs.Stands.{stands-once, idle-stands, some-event, fresh-starts, first-failing}
+use Rattle.chapter.proofs.Refine as refine
+use Rattle.chapter.proofs.Panel as panel
+
+-- ---- steps and events
+
+-- The fresh record reads as the initial state: "Initially, everyone is outside", no light is lit, no reader is blocked and no
+-- message is under way.
+pub fresh-reads : (people locations doors : ℕ) (origin destination exit : List ℕ) (right : List Bool)
+    → m4.Start (constantsOf (freshRecord people locations doors origin destination exit right)) (stateOf (freshRecord people locations doors origin destination exit right))
+fresh-reads = fresh-starts
+
+-- A step is done exactly when the event that it stands for is enabled, or it is a tick that stands for nothing.
+pub step-acts : (r : Record) → Shaped r → Sound r → (k : Kind) (d p : ℕ) → (stepOf r k d p .answer ≡ Done) ↔ (Enabled r k d p ⊎ Idle r k d)
+step-acts r sh s k d p =
+    (enabled r sh s d p k, ⊎-elim (λ e. follows r sh s d p k (e .event) (e .stands) (e .guard) .0) (ticks r sh s d p k))
+
+-- And where the event is enabled, the next record reads as the state after its action.
+pub step-follows : (r : Record) → Shaped r → Sound r → (k : Kind) (d p : ℕ) (e : m4.Event) → StandsFor r d p k e → m4.Guard (constantsOf r) (stateOf r) e
+    → Same (stateOf (stepOf r k d p .next)) (m4.action (constantsOf r) (stateOf r) e)
+step-follows r sh s k d p e stands guard = follows r sh s d p k e stands guard .1
+
+-- A tick that stands for nothing alters nothing of the reading.
+pub tick-idles : (r : Record) → Shaped r → Sound r → (k : Kind) (d p : ℕ) → Idle r k d → Same (stateOf (stepOf r k d p .next)) (stateOf r)
+tick-idles r sh s k d p i = panel.idles r k d p sh s i
+
+-- A step that isn't done alters nothing at all.
+pub refusal-alters-nothing : (r : Record) (k : Kind) (d p : ℕ) → (stepOf r k d p .answer ≡ Done → ⊥) → stepOf r k d p .next ≡ r
+refusal-alters-nothing = refused-stays
+
+-- A step stands for at most one event that is enabled ..
+pub stands-for-one : (r : Record) (k : Kind) (d p : ℕ) (e f : m4.Event) → StandsFor r d p k e → m4.Guard (constantsOf r) (stateOf r) e
+    → StandsFor r d p k f → m4.Guard (constantsOf r) (stateOf r) f → e ≡ f
+stands-for-one = stands-once
+
+-- .. and an idle tick for none.
+pub idle-stands-for-none : (r : Record) (k : Kind) (d p : ℕ) (e : m4.Event) → Idle r k d → StandsFor r d p k e → ⊥
+idle-stands-for-none = idle-stands
+
+-- What `decide` tells is the first of accept's three guards that fails for the card's person, and 0 where none does.
+pub denial-first : (r : Record) → Sound r → (d p : ℕ) → stepOf r Decide d p .answer ≡ Done
+    → FirstFailing (constantsOf r) (stateOf r) (getD (r .holder) d 0) d (stepOf r Decide d p .reason)
+denial-first = first-failing
+
+-- ---- axioms, invariants, refinements
+
+-- The tables of a sound record obey axm0-1 to axm2-3.
+pub constants-obey : (r : Record) → Sound r → Axioms (constantsOf r)
+constants-obey = axioms
+
+-- Every invariant, inv0-1 to inv4-7, holds of a sound record's reading.
+pub invariants-hold : (r : Record) → Sound r → m4.All (constantsOf r) (stateOf r)
+invariants-hold = panel.all-of
+
+-- Whatever the constants that obey the axioms: each machine keeps its invariants, and refines the one before.
+pub the-chapter : (c : Constants) → Axioms c → Chapter c
+the-chapter c ax =
+    record {
+      M0-keeps = refine.M0-keeps c ax;
+      M1-keeps = refine.M1-keeps c ax;
+      M2-keeps = panel.M2-keeps c ax;
+      M3-keeps = panel.M3-keeps c ax;
+      M4-keeps = panel.M4-keeps c ax;
+      M1-refines-M0 = refine.M1-refines-M0 c ax;
+      M2-refines-M1 = refine.M2-refines-M1 c ax;
+      M3-refines-M2 = refine.M3-refines-M2 c ax;
+      M4-refines-M3 = refine.M4-refines-M3 c ax;
+    }
+
+-- The initial state of the fourth refinement is seen as that of each machine before.
+pub starts-each : (c : Constants) → Axioms c → (s : State m4.names) → m4.Start c s
+    → m3.Start c (m4.see s) × m2.Start c (m3.see (m4.see s)) × m0.Start c (m2.see (m3.see (m4.see s)))
+starts-each c ax s h =
+    let third = refine.M4-refines-M3 c ax .starts s h in
+    let second = refine.M3-refines-M2 c ax .starts (m4.see s) third in
+    (third, second, refine.M2-refines-M1 c ax .starts (m3.see (m4.see s)) second)
+
+-- Any list of steps, done or refused, is a run of each machine.
+pub panel-runs : (r : Record) → Shaped r → Sound r → (rows : List Row) → RunOfEach r rows
+panel-runs r sh s rows = panel.runs r rows sh s
+
+-- ---- safety
+
+-- FUN-3: "A person which is in a location must be authorized to be there", after any list of steps.
+pub nobody-astray : (r : Record) → Shaped r → Sound r → (rows : List Row) (p : ℕ) → constantsOf r .P p → constantsOf r .aut p (stateOf (lastOf r rows) .sit p)
+nobody-astray r sh s rows p h =
+    let after = panel.last-sound r rows sh s in
+    let there = invariants-hold (lastOf r rows) (after .1) .0 .0 .0 .inv0-2 in
+    subst (λ (t : Tables). (q : ℕ) → siteOf t .P q → siteOf t .aut q (stateOf (lastOf r rows) .sit q)) (after .2) there p h
+
+-- SAF-1: "No persons must remain blocked in a location", after any list of steps.
+pub nobody-blocked : (r : Record) → Shaped r → Sound r → (rows : List Row) → SAF-1 (constantsOf r) (stateOf (lastOf r rows) .sit)
+nobody-blocked r sh s rows = saf-1 (constantsOf r) (axioms r s) (stateOf (lastOf r rows) .sit) (nobody-astray r sh s rows)
+
+-- SAF-2 and SAF-3, of every sound record's tables.
+pub nobody-confined : (r : Record) → Sound r → SAF-2 (constantsOf r) × SAF-3 (constantsOf r)
+nobody-confined r s = (saf-2 (constantsOf r) (axioms r s), saf-3 r s)
+
+-- After any list of steps, the signed way leads everybody outside from where they are, by locations that they may be in.
+pub led-outside : (r : Record) → Shaped r → Sound r → (rows : List Row) (p : ℕ) → constantsOf r .P p
+    → Leads (constantsOf r) p (stateOf (lastOf r rows) .sit p) (wayOf (r .locations) (r .exit) (stateOf (lastOf r rows) .sit p))
+led-outside r sh s rows p h = way-leads r s p (stateOf (lastOf r rows) .sit p) h (nobody-astray r sh s rows p h .2)
+
+-- 001, 4.2: in the first refinement the event pass is always enabled for somebody.
+pub pass-goes-on : (c : Constants) → Axioms c → (s : State m0.names) → m0.Inv c s → (e : m1.Event) × m1.Guard c s e
+pass-goes-on c ax s i =
+    let p = ax .some-P in
+    let on = saf-1 c ax (s .sit) (i .inv0-2) (p .0) (p .1) in
+    (m1.pass (p .0) (on .0), (on .1, on .2))
+
+-- axm1-7: "people can enter into the building"
+pub everybody-gets-in : (r : Record) → Sound r → (p : ℕ) → constantsOf r .P p → (l : ℕ) × constantsOf r .aut p l × constantsOf r .«com» 0 l
+everybody-gets-in r s = axioms r s .axm1-7
+
+-- FUN-4: a turnstile is open only for one person, whom the door was granted, who stands in front of it and may go behind it.
+pub open-for-one : (c : Constants) (s : State m4.names) → m4.All c s → (d : ℕ) → s .set m4.GRN d
+    → (p : ℕ) × s .map dap p d × (s .sit p ≡ c .org d) × c .aut p (c .dst d) × ((q : ℕ) → s .map dap q d → q ≡ p)
+open-for-one c s all d g =
+    let inv2 = all .0 .0 .1 in
+    let who = inv2 .inv2-6 d .0 (inl (all .1 .inv4-4 d g)) in
+    (who .0, who .1, inv2 .inv2-2 (who .0) d (who .1), inv2 .inv2-3 (who .0) d (who .1), λ q m. inv2 .inv2-1 .back q (who .0) d m (who .1))
+
+-- At every door of every sound record some event is enabled.
+pub no-door-stuck : (r : Record) → Shaped r → Sound r → (d : ℕ) → constantsOf r .D d → (e : m4.Event) × m4.Guard (constantsOf r) (stateOf r) e
+no-door-stuck = some-event

@@ -1,0 +1,1 @@
+// The demands as theorems: the definitions are in specs/, the theorems in proofs/. There is no function here.

@@ -1,0 +1,78 @@
+-- The fresh record of lawful tables is sound, with everyone outside and every door free. Assumes nothing.
+use Prim.Native.Nat.{ℕ, _≤_}
+use mathlib.Core.Path.{_≡_, refl, sym, subst}
+use mathlib.Core.Bool.{Bool, true, false≢true}
+use mathlib.Core.List.{List}
+use mathlib.Core.Logic.{⊎-elim}
+use lib.ListN.{length, getD, length-replicate, getD-replicate, List·getD-eq-default}
+use lib.Dec.{lit≤}
+use Rattle.rules.specs.Tables.{mayBe, orElse, andAlso}
+use Rattle.rules.specs.Rules.{Lawful}
+use Rattle.record.specs.declared.record.Record.{Record}
+use Rattle.record.specs.Phase.{keeps, grants, lit, leastCount, mostCount}
+use Rattle.record.specs.Doors.{door, doorOf, freeDoor, zeros, freshRecord, Shaped}
+use Rattle.record.specs.Sound.{ZeroBeyond, DoorOk, Sound}
+use Rattle.record.proofs.Cases.{below-or-not}
+
+zeros-long : (n : ℕ) → length (zeros n) ≡ n
+unfolding zeros
+zeros-long n = length-replicate n 0
+
+zeros-at : (n i : ℕ) → getD (zeros n) i 0 ≡ 0
+unfolding zeros
+zeros-at n i =
+    ⊎-elim (λ h. getD-replicate n i 0 0 h) (λ h. List·getD-eq-default (zeros n) 0 (subst (λ (k : ℕ). k ≤ i) (sym (zeros-long n)) h)) (below-or-not i n)
+
+-- location 0 is everybody's
+may-be-outside : (right : List Bool) (p l : ℕ) → l ≡ 0 → mayBe right p l ≡ true
+unfolding mayBe orElse
+may-be-outside right p l e = rw e
+
+free-ok : (r : Record) (d : ℕ) → DoorOk r d freeDoor
+unfolding keeps grants leastCount mostCount lit andAlso orElse
+free-ok r d =
+    record {
+      known = lit≤ tt;
+      held = λ e. absurd (false≢true e);
+      nobody = λ _. refl;
+      least = lit≤ tt;
+      most = lit≤ tt;
+      alone = λ e. absurd (false≢true e);
+      starts = λ e. absurd (false≢true e);
+      may = λ e. absurd (false≢true e);
+    }
+
+module _ (people locations doors : ℕ) (origin destination exit : List ℕ) (right : List Bool) where
+  -- every door of a fresh record is free
+  pub fresh-free : (d : ℕ) → doorOf (freshRecord people locations doors origin destination exit right) d ≡ freeDoor
+  fresh-free d = let z = zeros-at 64 d in λ i. door (z i) (z i) (z i)
+
+  -- everyone is outside
+  pub fresh-outside : (p : ℕ) → getD (freshRecord people locations doors origin destination exit right .place) p 0 ≡ 0
+  fresh-outside p = zeros-at 64 p
+
+  pub fresh-sound : Lawful people locations doors origin destination exit right → ZeroBeyond people locations doors origin destination exit right
+      → Sound (freshRecord people locations doors origin destination exit right)
+  fresh-sound lawful zero =
+      record {
+        tables = lawful;
+        zero-tables = zero;
+        zero-places = λ p _. zeros-at 64 p;
+        zero-doors = λ d _. fresh-free d;
+        placed = λ p _. may-be-outside right p _ (zeros-at 64 p);
+        doors = λ d _. subst (DoorOk (freshRecord people locations doors origin destination exit right) d) (sym (fresh-free d)) (free-ok _ d);
+      }
+
+  pub fresh-shaped : length origin ≡ 64 → length destination ≡ 64 → length exit ≡ 32 → length right ≡ 2048
+      → Shaped (freshRecord people locations doors origin destination exit right)
+  fresh-shaped o t e r =
+      record {
+        origins = o;
+        destinations = t;
+        exits = e;
+        rights = r;
+        places = zeros-long 64;
+        phases = zeros-long 64;
+        holders = zeros-long 64;
+        counts = zeros-long 64;
+      }

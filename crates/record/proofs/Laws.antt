@@ -1,0 +1,561 @@
+-- What a step does and what it leaves alone: the laws of `stepOf`.
+--     step-cases                               a step is refused or done: what holds of both holds of each step
+--     done-did, allowed-does                   a step is done exactly when it may be, and does what its clause says
+--     unsound-14, absent-11, barred-12         the refusals, in their order
+--     sound-stays, shaped-stays                a sound record stays sound
+--     tables-stay, others-stay, places-stay    a step alters nothing of the tables, of any other door and of anybody's place ..
+--     passed-moves                             .. except `passed`, which moves the held person and nobody else
+--     refused-stays, barred-stays              a refused step is no change
+--     denied-first                             the reason is the first that applies
+--     granted-exactly                          a card is granted exactly when all three conditions hold
+--     leaves, holds-on                         the held person leaves at `passed`, `lapsed` and a denial, and at no other step
+--     lapsed-frees                             after `lapsed` the person holds no grant
+--     green-burns, green-expires, red-burns, red-dims
+--                                              a light burns for exactly as many ticks of its door as its countdown says
+--     run-sound, run-shaped, run-tables        the same of a whole list of steps
+-- Assumes nothing.
+use Prim.Native.Nat.{ℕ, suc, _≤_, _<_, _-_, _+_}
+use mathlib.Core.Path.{_≡_, refl, sym, ap, subst, _∙_}
+use mathlib.Core.Bool.{Bool, true, false, not, cond, true≢false, false≢true}
+use mathlib.Core.Logic.{_↔_, ⊎-elim}
+use native.Mathlib.Omega.{arith}
+use borrow.Author.Tests.{eqb-true, eqb-false, ltb-true, lt-ltb, le-ltb, eq-eqb, ne-eqb}
+use mathlib.Core.List.{List, [], _∷_}
+use lib.ListN.{getD}
+use lib.Dec.{eqb, ltb}
+use lib.Seq.{getD-set-same, getD-set-other}
+use Rattle.rules.specs.Tables.{orElse, andAlso}
+use Rattle.rules.proofs.Laws.{and-left, and-right, and-both, clash}
+use Rattle.record.specs.declared.record.Door.{Door}
+use Rattle.record.specs.declared.record.Record.{Record}
+use Rattle.record.specs.declared.table.Kind.{Kind}
+use Rattle.record.specs.declared.table.Kind.the-variants.{Card, Decide, Green, Red, Walk, Tick, Passed, Lapsed, Dark, Ack, Unknown}
+use Rattle.record.specs.declared.steps.Answer.{Answer}
+use Rattle.record.specs.declared.steps.Answer.the-variants.{Done, NoSuch, NotAllowed, Unsound}
+use Rattle.record.specs.declared.steps.Step.{Step}
+use Rattle.record.specs.Phase.{free, granted, green, walked, expired, denied, red, dimmed, closed, keeps, grants, lit}
+use Rattle.record.specs.Doors.{door, doorOf, Tables, tablesOf, Shaped}
+use Rattle.record.specs.Grants.{GrantAt}
+use Rattle.record.specs.Sound.{Sound}
+use Rattle.record.specs.SoundTest.{soundB}
+use Rattle.record.specs.Kinds.{allows, namesPerson}
+use Rattle.record.specs.Steps.{reasonFor, Admitted, First, Does, stays, turns, moves, burns, effect, act, refused, exist, doing, soundStep, stepOf}
+use Rattle.record.specs.Run.{Row, rowOf, lastOf}
+use Rattle.record.specs.Lights.{isTick, ticks, Each, end, step, NoGreenNoWalk, NoRed}
+use Rattle.record.proofs.Cases.{either, same-or-not, one-of}
+use Rattle.record.proofs.Keep.{put-same, put-other}
+use Rattle.record.proofs.Tells.{sound-tells}
+use Rattle.record.proofs.Right.{reason-first, admitted, admits, grants-keeps, right, act-sound, act-shaped}
+
+walked-keeps : (ph : ℕ) → ph ≡ walked → keeps ph ≡ true
+unfolding keeps andAlso
+walked-keeps ph e = rw e
+
+expired-grants : (ph : ℕ) → ph ≡ expired → grants ph ≡ true
+unfolding grants andAlso
+expired-grants ph e = rw e
+
+-- the step may be done: the record is sound, the numbers exist, and the door's phase allows it
+pub record Allowed (r : Record) (k : Kind) (d p : ℕ) : Type 0 where
+  pub tested : soundB r ≡ true
+  pub a-door : d < r .doors
+  pub a-person : namesPerson k ≡ true → p < r .people
+  pub allowed : allows k (getD (r .phase) d 0) ≡ true
+
+-- ---- the two ways in which a step ends
+
+-- what holds of every refusal and of every step that is done holds of each step
+pub step-cases : (P : Step → Type 0) (r : Record) (k : Kind) (d p : ℕ) → ((a : Answer) (ph : ℕ) → (a ≡ Done → ⊥) → P (refused r a ph))
+    → (Allowed r k d p → P (act r d (doing r k d p))) → P (stepOf r k d p)
+unfolding stepOf soundStep exist orElse
+step-cases P r k d p no-way done =
+    either P (soundB r)
+    (λ s.
+    either P (exist r k d p)
+    (λ x.
+    either P (allows k (getD (r .phase) d 0))
+    (λ w.
+    done
+    (record {
+      tested = s;
+      a-door = ltb-true d (r .doors) (and-left _ _ x);
+      a-person = λ n. ltb-true p (r .people) (rw n at (and-right (ltb d (r .doors)) _ x));
+      allowed = w;
+    }))
+    (λ _. no-way NotAllowed (getD (r .phase) d 0) (λ e. let z : _≡_ {A = ℕ} 0 1 = cc in omega arith)))
+    (λ _. no-way NoSuch 0 (λ e. let z : _≡_ {A = ℕ} 0 1 = cc in omega arith)))
+    (λ _. no-way Unsound 0 (λ e. let z : _≡_ {A = ℕ} 0 1 = cc in omega arith))
+
+-- a step that is done did what its clause says ..
+pub done-did : (r : Record) (k : Kind) (d p : ℕ) → stepOf r k d p .answer ≡ Done → Allowed r k d p × (stepOf r k d p ≡ act r d (doing r k d p))
+done-did r k d p =
+    step-cases (λ x. x .answer ≡ Done → Allowed r k d p × (x ≡ act r d (doing r k d p))) r k d p (λ a ph no-way e. absurd (no-way e)) (λ w e. (w, refl))
+
+-- .. and every step that may be done is
+pub allowed-does : (r : Record) (k : Kind) (d p : ℕ) → Allowed r k d p → stepOf r k d p ≡ act r d (doing r k d p)
+unfolding stepOf soundStep exist orElse
+allowed-does r k d p w = rw (w .tested, there, w .allowed)
+  where
+    person : (b : Bool) → namesPerson k ≡ b → orElse (not b) (ltb p (r .people)) ≡ true
+    person true e = lt-ltb p (r .people) (w .a-person e)
+    person false e = refl
+
+    there : exist r k d p ≡ true
+    there = and-both _ _ (lt-ltb d (r .doors) (w .a-door)) (person (namesPerson k) refl)
+
+-- "14, then 11, then 12"
+pub unsound-14 : (r : Record) (k : Kind) (d p : ℕ) → soundB r ≡ false → stepOf r k d p ≡ refused r Unsound 0
+unfolding stepOf
+unsound-14 r k d p e = rw e
+
+pub absent-11 : (r : Record) (k : Kind) (d p : ℕ) → soundB r ≡ true → exist r k d p ≡ false → stepOf r k d p ≡ refused r NoSuch 0
+unfolding stepOf soundStep
+absent-11 r k d p s e = rw (s, e)
+
+pub barred-12 : (r : Record) (k : Kind) (d p : ℕ) → soundB r ≡ true → exist r k d p ≡ true → allows k (getD (r .phase) d 0) ≡ false
+    → stepOf r k d p ≡ refused r NotAllowed (getD (r .phase) d 0)
+unfolding stepOf soundStep
+barred-12 r k d p s e w = rw (s, e, w)
+
+-- ---- what is kept
+
+pub sound-stays : (r : Record) (k : Kind) (d p : ℕ) → Shaped r → Sound r → Sound (stepOf r k d p .next)
+sound-stays r k d p sh s =
+    step-cases (λ x. Sound (x .next)) r k d p (λ _ _ _. s)
+    (λ w. act-sound r sh s d (w .a-door) (doing r k d p) (right r d (s .doors d (w .a-door)) k p (reasonFor r d (getD (r .holder) d 0)) (w .allowed) (w .a-person) (λ _. admitted r d (getD (r .holder) d 0))))
+
+pub shaped-stays : (r : Record) (k : Kind) (d p : ℕ) → Shaped r → Shaped (stepOf r k d p .next)
+shaped-stays r k d p sh = step-cases (λ x. Shaped (x .next)) r k d p (λ _ _ _. sh) (λ _. act-shaped r sh d (doing r k d p))
+
+act-tables : (r : Record) (d : ℕ) (x : Does) → tablesOf (act r d x .next) ≡ tablesOf r
+unfolding act
+act-tables r d stays = refl
+act-tables r d (turns c why) = refl
+act-tables r d (moves c) = refl
+
+pub tables-stay : (r : Record) (k : Kind) (d p : ℕ) → tablesOf (stepOf r k d p .next) ≡ tablesOf r
+tables-stay r k d p =
+    step-cases (λ x. tablesOf (x .next) ≡ tablesOf r) r k d p (λ _ _ _. refl) (λ _. act-tables r d (doing r k d p))
+
+act-others : (r : Record) (d : ℕ) (x : Does) (e : ℕ) → (e ≡ d → ⊥) → doorOf (act r d x .next) e ≡ doorOf r e
+unfolding act
+act-others r d stays e ne = refl
+act-others r d (turns c why) e ne = put-other r d c e ne
+act-others r d (moves c) e ne = put-other r d c e ne
+
+pub others-stay : (r : Record) (k : Kind) (d p e : ℕ) → (e ≡ d → ⊥) → doorOf (stepOf r k d p .next) e ≡ doorOf r e
+others-stay r k d p e ne = step-cases (λ x. doorOf (x .next) e ≡ doorOf r e) r k d p (λ _ _ _. refl) (λ _. act-others r d (doing r k d p) e ne)
+
+pub act-done : (r : Record) (d : ℕ) (x : Does) → act r d x .answer ≡ Done
+unfolding act
+act-done r d stays = refl
+act-done r d (turns c why) = refl
+act-done r d (moves c) = refl
+
+pub refused-stays : (r : Record) (k : Kind) (d p : ℕ) → (stepOf r k d p .answer ≡ Done → ⊥) → stepOf r k d p .next ≡ r
+refused-stays r k d p =
+    step-cases (λ x. (x .answer ≡ Done → ⊥) → x .next ≡ r) r k d p (λ _ _ _ _. refl)
+    (λ _ no-way. absurd (no-way (act-done r d (doing r k d p))))
+
+-- ---- places
+
+-- only `passed` moves anybody
+still : (r : Record) (k : Kind) (d p why : ℕ) (c : Door) → (k ≡ Passed → ⊥) → act r d (effect k p why c) .next .place ≡ r .place
+unfolding act effect
+still r Card d p why c ne = refl
+still r Decide d p why c ne = either (λ x. act r d x .next .place ≡ r .place) (eqb why 0) (λ _. refl) (λ _. refl)
+still r Green d p why c ne = refl
+still r Red d p why c ne = refl
+still r Walk d p why c ne = refl
+still r Tick d p why c ne =
+    either (λ x. act r d x .next .place ≡ r .place) (eqb (c .phase) green) (λ _. either (λ x. act r d x .next .place ≡ r .place) (ltb 1 (c .count)) (λ _. refl) (λ _. refl))
+    (λ _.
+    either (λ x. act r d x .next .place ≡ r .place) (eqb (c .phase) red)
+    (λ _. either (λ x. act r d x .next .place ≡ r .place) (ltb 1 (c .count)) (λ _. refl) (λ _. refl)) (λ _. refl))
+still r Passed d p why c ne = absurd (ne refl)
+still r Lapsed d p why c ne = refl
+still r Dark d p why c ne = refl
+still r Ack d p why c ne = refl
+still r Unknown d p why c ne = refl
+
+pub places-stay : (r : Record) (k : Kind) (d p : ℕ) → (k ≡ Passed → ⊥) → stepOf r k d p .next .place ≡ r .place
+places-stay r k d p ne =
+    step-cases (λ x. x .next .place ≡ r .place) r k d p (λ _ _ _. refl)
+    (λ _. still r k d p (reasonFor r d (getD (r .holder) d 0)) (doorOf r d) ne)
+
+-- the person whom door d held is in its destination now, and everybody else is where they were
+pub record Moved (r : Record) (d : ℕ) (next : Record) : Type 0 where
+  pub mover : getD (next .place) (getD (r .holder) d 0) 0 ≡ getD (r .destination) d 0
+  pub others : (q : ℕ) → (q ≡ getD (r .holder) d 0 → ⊥) → getD (next .place) q 0 ≡ getD (r .place) q 0
+
+pub passed-moves : (r : Record) (d p : ℕ) → Shaped r → Sound r → stepOf r Passed d p .answer ≡ Done → Moved r d (stepOf r Passed d p .next)
+unfolding act effect allows
+passed-moves r d p sh s e =
+    let w = done-did r Passed d p e in
+    let ok = s .doors d (w .0 .a-door) in
+    let held : getD (r .holder) d 0 < r .people = ok .held (walked-keeps (getD (r .phase) d 0) (eqb-true _ _ (w .0 .allowed))) in
+    let most = s .tables .in-range .people-to in
+    let long = sh .places in
+    rw (w .1)
+    (record {
+      mover = getD-set-same (r .place) (getD (r .holder) d 0) (getD (r .destination) d 0) 0 (omega arith);
+      others = λ q ne. getD-set-other (r .place) (getD (r .holder) d 0) q (getD (r .destination) d 0) 0 ne;
+    })
+
+-- ---- decisions
+
+-- "the first that applies": what `decide` tells is the first reason, and 0 where the person is admitted
+pub denied-first : (r : Record) (d p : ℕ) → stepOf r Decide d p .answer ≡ Done → First r d (getD (r .holder) d 0) (stepOf r Decide d p .reason)
+unfolding act effect
+denied-first r d p e =
+    rw (done-did r Decide d p e .1)
+    (either (λ x. First r d (getD (r .holder) d 0) (act r d x .reason)) (eqb (reasonFor r d (getD (r .holder) d 0)) 0)
+    (λ z. rw (eqb-true (reasonFor r d (getD (r .holder) d 0)) 0 z) at (reason-first r d (getD (r .holder) d 0))) (λ _. reason-first r d (getD (r .holder) d 0)))
+
+-- a card is granted exactly when all three conditions hold, and else denied
+pub granted-exactly : (r : Record) (d p : ℕ) → stepOf r Decide d p .answer ≡ Done → (stepOf r Decide d p .phase ≡ granted) ↔ Admitted r d (getD (r .holder) d 0)
+unfolding act effect
+granted-exactly r d p e =
+    rw (done-did r Decide d p e .1)
+    (either (λ x. (act r d x .phase ≡ granted) ↔ Admitted r d (getD (r .holder) d 0)) (eqb (reasonFor r d (getD (r .holder) d 0)) 0)
+    (λ z. (λ _. admitted r d (getD (r .holder) d 0) (eqb-true _ _ z), λ _. refl))
+    (λ z. (λ q. absurd (omega arith), λ a. absurd (eqb-false _ _ z (admits r d (getD (r .holder) d 0) a)))))
+
+-- ---- who stays at the door
+
+-- the door after what is done, and the reason that is told
+abbrev pub becomes : Door → Does → Door
+becomes c stays = c
+becomes c (turns x why) = x
+becomes c (moves x) = x
+
+abbrev pub tells : Does → ℕ
+tells stays = 0
+tells (turns x why) = why
+tells (moves x) = 0
+
+act-door : (r : Record) → Shaped r → (d : ℕ) → d < 64 → (x : Does) → doorOf (act r d x .next) d ≡ becomes (doorOf r d) x
+unfolding act
+act-door r sh d h stays = refl
+act-door r sh d h (turns c why) = put-same r sh d c h
+act-door r sh d h (moves c) = put-same r sh d c h
+
+act-tells : (r : Record) (d : ℕ) (x : Does) → act r d x .reason ≡ tells x
+unfolding act
+act-tells r d stays = refl
+act-tells r d (turns c why) = refl
+act-tells r d (moves c) = refl
+
+pub door-after : (r : Record) (k : Kind) (d p : ℕ) → Shaped r → Sound r → stepOf r k d p .answer ≡ Done
+    → doorOf (stepOf r k d p .next) d ≡ becomes (doorOf r d) (doing r k d p)
+door-after r k d p sh s e =
+    let w = done-did r k d p e in
+    let exists = w .0 .a-door in
+    let most = s .tables .in-range .doors-to in
+    rw (w .1) (act-door r sh d (omega arith) (doing r k d p))
+
+-- the steps that end a person's stay at a door: `passed`, `lapsed`, and a `decide` that tells a reason
+pub data Ends : Kind → ℕ → Type 0 where
+  passing : {reason : ℕ} → Ends Passed reason
+  lapsing : {reason : ℕ} → Ends Lapsed reason
+  denial : {reason : ℕ} → (reason ≡ 0 → ⊥) → Ends Decide reason
+
+-- a door keeps nobody, or keeps the person whom it kept
+pub record Left (c : Door) : Type 0 where
+  pub nobody : keeps (c .phase) ≡ false
+  pub dropped : c .holder ≡ 0
+
+pub record Stays (before after : Door) : Type 0 where
+  pub kept : keeps (after .phase) ≡ true
+  pub same : after .holder ≡ before .holder
+
+gone : (k : Kind) (p why n : ℕ) (c : Door) → tells (effect k p why c) ≡ n → Ends k n → Left (becomes c (effect k p why c))
+unfolding effect keeps andAlso
+gone k p why n c e passing = record { nobody = refl; dropped = refl }
+gone k p why n c e lapsing = record { nobody = refl; dropped = refl }
+gone k p why n c e (denial some) =
+    either (λ x. tells x ≡ n → Left (becomes c x)) (eqb why 0) (λ _ z. absurd (some (sym z))) (λ _ _. record { nobody = refl; dropped = refl }) e
+
+-- the held person leaves the door at `passed`, `lapsed` and a denial ..
+pub leaves : (r : Record) (k : Kind) (d p n : ℕ) → Shaped r → Sound r → stepOf r k d p .answer ≡ Done → stepOf r k d p .reason ≡ n → Ends k n
+    → Left (doorOf (stepOf r k d p .next) d)
+leaves r k d p n sh s e why ends =
+    let told : stepOf r k d p .reason ≡ tells (doing r k d p) = rw (done-did r k d p e .1) (act-tells r d (doing r k d p)) in
+    subst Left (sym (door-after r k d p sh s e)) (gone k p (reasonFor r d (getD (r .holder) d 0)) n (doorOf r d) (sym told ∙ why) ends)
+
+-- a phase that is one of two, or one, in which nobody is kept
+out : {A : Type 0} (ph a : ℕ) → keeps a ≡ false → eqb ph a ≡ true → keeps ph ≡ true → A
+out ph a no-one e k = clash k (rw (eqb-true ph a e) no-one)
+
+here : (k : Kind) (p why : ℕ) (c : Door) → allows k (c .phase) ≡ true → keeps (c .phase) ≡ true → (Ends k (tells (effect k p why c)) → ⊥)
+    → Stays c (becomes c (effect k p why c))
+unfolding effect allows keeps andAlso
+here Card p why c e k on = out (c .phase) free refl e k
+here Decide p why c e k on =
+    either (λ x. (Ends Decide (tells x) → ⊥) → Stays c (becomes c x)) (eqb why 0) (λ _ _. record { kept = refl; same = refl })
+    (λ z no-end. absurd (no-end (denial (eqb-false why 0 z)))) on
+here Green p why c e k on = record { kept = refl; same = refl }
+here Red p why c e k on = ⊎-elim (λ q. clash k (rw q refl)) (λ q. clash k (rw q refl)) (one-of (c .phase) denied red e)
+here Walk p why c e k on = record { kept = refl; same = refl }
+here Tick p why c e k on =
+    either (λ x. Stays c (becomes c x)) (eqb (c .phase) green)
+    (λ _. either (λ x. Stays c (becomes c x)) (ltb 1 (c .count)) (λ _. record { kept = k; same = refl }) (λ _. record { kept = refl; same = refl }))
+    (λ _. either (λ x. Stays c (becomes c x)) (eqb (c .phase) red) (λ q. out (c .phase) red refl q k) (λ _. record { kept = k; same = refl }))
+here Passed p why c e k on = absurd (on passing)
+here Lapsed p why c e k on = absurd (on lapsing)
+here Dark p why c e k on = out (c .phase) dimmed refl e k
+here Ack p why c e k on = out (c .phase) closed refl e k
+here Unknown p why c e k on = absurd (false≢true e)
+
+-- .. and at no other step
+pub holds-on : (r : Record) (k : Kind) (d p : ℕ) → Shaped r → Sound r → stepOf r k d p .answer ≡ Done → keeps (getD (r .phase) d 0) ≡ true
+    → (Ends k (stepOf r k d p .reason) → ⊥) → Stays (doorOf r d) (doorOf (stepOf r k d p .next) d)
+holds-on r k d p sh s e kept on =
+    let w = done-did r k d p e in
+    let told : stepOf r k d p .reason ≡ tells (doing r k d p) = rw (w .1) (act-tells r d (doing r k d p)) in
+    subst (Stays (doorOf r d)) (sym (door-after r k d p sh s e))
+    (here k p (reasonFor r d (getD (r .holder) d 0)) (doorOf r d) (w .0 .allowed) kept (rw told at on))
+
+-- "so that `lapsed` frees [some]body": after `lapsed` the person whom the door held has no grant
+pub lapsed-frees : (r : Record) (d p e : ℕ) → Shaped r → Sound r → stepOf r Lapsed d p .answer ≡ Done
+    → GrantAt (r .doors) (stepOf r Lapsed d p .next .phase) (stepOf r Lapsed d p .next .holder) (getD (r .holder) d 0) e → ⊥
+unfolding allows
+lapsed-frees r d p e sh s done g =
+    let w = done-did r Lapsed d p done in
+    let over = leaves r Lapsed d p (stepOf r Lapsed d p .reason) sh s done refl lapsing in
+    ⊎-elim (λ is. clash (grants-keeps _ (rw is at (g .holds))) (over .nobody))
+    (λ is-not.
+    let at = others-stay r Lapsed d p e is-not in
+    s .doors d (w .0 .a-door) .alone (expired-grants (getD (r .phase) d 0) (eqb-true _ _ (w .0 .allowed))) e is-not
+    (record {
+      exists = g .exists;
+      holds = subst (λ (c : Door). grants (c .phase) ≡ true) at (g .holds);
+      person = subst (λ (c : Door). c .holder ≡ getD (r .holder) d 0) at (g .person);
+    }))
+    (same-or-not e d)
+
+-- ---- lights
+
+-- at a sound record the test for 14 is passed
+pub sound-steps : (r : Record) (k : Kind) (d p : ℕ) → Shaped r → Sound r → stepOf r k d p ≡ soundStep r k d p
+unfolding stepOf
+sound-steps r k d p sh s = rw (sound-tells r sh .back s)
+
+-- a step that the door's phase doesn't allow is no change
+pub barred-stays : (r : Record) (k : Kind) (d p : ℕ) → allows k (getD (r .phase) d 0) ≡ false → stepOf r k d p .next ≡ r
+barred-stays r k d p e = refused-stays r k d p (λ done. true≢false (sym (done-did r k d p done .0 .allowed) ∙ e))
+
+-- a tick is done in every phase
+pub tick-done : (r : Record) (d p : ℕ) → Shaped r → Sound r → d < r .doors → stepOf r Tick d p .answer ≡ Done
+unfolding soundStep exist allows andAlso orElse
+tick-done r d p sh s h = rw (sound-steps r Tick d p sh s, lt-ltb d (r .doors) h) (act-done r d (doing r Tick d p))
+
+-- a light's last tick, and each one before it
+burnt : ℕ → ℕ
+burnt ph = cond (eqb ph green) expired dimmed
+
+tick-last : (ph h n p why : ℕ) → lit ph ≡ true → n ≤ 1 → becomes (door ph h n) (effect Tick p why (door ph h n)) ≡ door (burnt ph) h 0
+unfolding effect lit burnt
+tick-last ph h n p why lights le = ⊎-elim (λ (q : ph ≡ green). simp (q, le-ltb 1 n le)) (λ (q : ph ≡ red). simp (q, le-ltb 1 n le)) (one-of ph green red lights)
+
+tick-more : (ph h n p why : ℕ) → lit ph ≡ true → 1 < n → becomes (door ph h n) (effect Tick p why (door ph h n)) ≡ door ph h (n - 1)
+unfolding effect lit
+tick-more ph h n p why lights lt = ⊎-elim (λ (q : ph ≡ green). simp (q, lt-ltb 1 n lt)) (λ (q : ph ≡ red). simp (q, lt-ltb 1 n lt)) (one-of ph green red lights)
+
+-- the door after a tick
+tick-after : (r : Record) (d p ph h n : ℕ) (c : Door) → Shaped r → Sound r → d < r .doors → doorOf r d ≡ door ph h n
+    → becomes (door ph h n) (effect Tick p (reasonFor r d (getD (r .holder) d 0)) (door ph h n)) ≡ c → doorOf (stepOf r Tick d p .next) d ≡ c
+tick-after r d p ph h n c sh s hd at to =
+    door-after r Tick d p sh s (tick-done r d p sh s hd)
+    ∙ (ap (λ (x : Door). becomes x (effect Tick p (reasonFor r d (getD (r .holder) d 0)) x)) at ∙ to)
+
+-- a step that isn't a tick of door d and that phase ph doesn't allow there
+abbrev Calm : ℕ → ℕ → Row → Type 0
+Calm ph d row = row .at ≡ d → isTick (row .kind) ≡ false → allows (row .kind) ph ≡ false
+
+is-tick : (k : Kind) → isTick k ≡ true → k ≡ Tick
+unfolding isTick
+is-tick Card e = absurd (false≢true e)
+is-tick Decide e = absurd (false≢true e)
+is-tick Green e = absurd (false≢true e)
+is-tick Red e = absurd (false≢true e)
+is-tick Walk e = absurd (false≢true e)
+is-tick Tick e = refl
+is-tick Passed e = absurd (false≢true e)
+is-tick Lapsed e = absurd (false≢true e)
+is-tick Dark e = absurd (false≢true e)
+is-tick Ack e = absurd (false≢true e)
+is-tick Unknown e = absurd (false≢true e)
+
+ticks-on : (d : ℕ) (row : Row) (rows : List Row) → row .at ≡ d → isTick (row .kind) ≡ true → ticks d (row ∷ rows) ≡ suc (ticks d rows)
+unfolding ticks andAlso
+ticks-on d row rows at tick = simp (eq-eqb _ _ at, tick)
+
+ticks-idle : (d : ℕ) (row : Row) (rows : List Row) → isTick (row .kind) ≡ false → ticks d (row ∷ rows) ≡ ticks d rows
+unfolding ticks andAlso
+ticks-idle d row rows idle = rw idle (go (eqb (row .at) d))
+  where
+    go : (b : Bool) → cond (andAlso b false) (suc (ticks d rows)) (ticks d rows) ≡ ticks d rows
+    go true = refl
+    go false = refl
+
+ticks-off : (d : ℕ) (row : Row) (rows : List Row) → (row .at ≡ d → ⊥) → ticks d (row ∷ rows) ≡ ticks d rows
+unfolding ticks andAlso
+ticks-off d row rows away = simp (ne-eqb _ _ away)
+
+-- a light burns at door d with a countdown of n, of which the list takes off fewer
+record Burning (ph d h : ℕ) (rows : List Row) (r : Record) (n : ℕ) : Type 0 where
+  shaped : Shaped r
+  sound : Sound r
+  exists : d < r .doors
+  burns : lit ph ≡ true
+  now : doorOf r d ≡ door ph h n
+  more : ticks d rows < n
+
+-- one step of a calm list: a tick of the door takes one off, all else nothing
+calm-row : (r : Record) (d ph h n : ℕ) (row : Row) (rows : List Row) → Burning ph d h (row ∷ rows) r n → Calm ph d row
+    → (m : ℕ) × (doorOf (rowOf r row .next) d ≡ door ph h m) × (m + ticks d (row ∷ rows) ≡ n + ticks d rows)
+calm-row r d ph h n row rows b calm = ⊎-elim (λ is. ticking is (isTick (row .kind)) refl) other (same-or-not (row .at) d)
+  where
+    other : (row .at ≡ d → ⊥) → (m : ℕ) × (doorOf (rowOf r row .next) d ≡ door ph h m) × (m + ticks d (row ∷ rows) ≡ n + ticks d rows)
+    other away = (n, others-stay r (row .kind) (row .at) (row .person) d (λ e. away (sym e)) ∙ b .now, ap (λ (t : ℕ). n + t) (ticks-off d row rows away))
+
+    ticking : row .at ≡ d → (t : Bool) → isTick (row .kind) ≡ t → (m : ℕ) × (doorOf (rowOf r row .next) d ≡ door ph h m) × (m + ticks d (row ∷ rows) ≡ n + ticks d rows)
+    ticking is true tick =
+        let one = ticks-on d row rows is tick in
+        let more = b .more in
+        let to = tick-after r d (row .person) ph h n (door ph h (n - 1)) (b .shaped) (b .sound) (b .exists) (b .now) (tick-more ph h n (row .person) (reasonFor r d (getD (r .holder) d 0)) (b .burns) (omega arith)) in
+        (n - 1, rw (is-tick (row .kind) tick, is) to, omega arith)
+    ticking is false idle =
+        let none : stepOf r (row .kind) (row .at) (row .person) .next ≡ r =
+        barred-stays r (row .kind) (row .at) (row .person) (rw (is, ap (λ (c : Door). c .phase) (b .now)) (calm is idle)) in
+        (n, rw none (b .now), ap (λ (t : ℕ). n + t) (ticks-idle d row rows idle))
+
+-- a light burns on through a calm list that has fewer ticks of its door than its countdown, and has lost just those
+calm-burns : (ph d h : ℕ) (rows : List Row) → Each (Calm ph d) rows → (r : Record) (n : ℕ) → Burning ph d h rows r n
+    → Burning ph d h [] (lastOf r rows) (n - ticks d rows)
+unfolding lastOf ticks
+calm-burns ph d h rows end r n b =
+    record {
+      shaped = b .shaped;
+      sound = b .sound;
+      exists = b .exists;
+      burns = b .burns;
+      now = b .now ∙ ap (λ (m : ℕ). door ph h m) (omega arith);
+      more = let more = b .more in omega arith;
+    }
+calm-burns ph d h rows (step {row} {rows = rest} calm calms) r n b =
+    let one = calm-row r d ph h n row rest b calm in
+    let sum = one .2 in
+    let more = b .more in
+    let k = row .kind in
+    subst (λ (m : ℕ). Burning ph d h [] (lastOf (rowOf r row .next) rest) m) (omega arith)
+    (calm-burns ph d h rest calms (rowOf r row .next) (one .0)
+    (record {
+      shaped = shaped-stays r k (row .at) (row .person) (b .shaped);
+      sound = sound-stays r k (row .at) (row .person) (b .shaped) (b .sound);
+      exists = rw (ap (λ (t : Tables). t .doors) (tables-stay r k (row .at) (row .person))) (b .exists);
+      burns = b .burns;
+      now = one .1;
+      more = omega arith;
+    }))
+
+-- and the tick that takes the last one off puts it out
+calm-ends : (ph d h : ℕ) (rows : List Row) → Each (Calm ph d) rows → (r : Record) (n p : ℕ) → Burning ph d h rows r n → ticks d rows + 1 ≡ n
+    → doorOf (stepOf (lastOf r rows) Tick d p .next) d ≡ door (burnt ph) h 0
+calm-ends ph d h rows calms r n p b last =
+    let left = calm-burns ph d h rows calms r n b in
+    tick-after (lastOf r rows) d p ph h (n - ticks d rows) (door (burnt ph) h 0) (left .shaped) (left .sound) (left .exists) (left .now)
+    (tick-last ph h (n - ticks d rows) p (reasonFor (lastOf r rows) d (getD (lastOf r rows .holder) d 0)) (b .burns) (omega arith))
+
+each-as : {P Q : Row → Type 0} {rows : List Row} → ((row : Row) → P row → Q row) → Each P rows → Each Q rows
+each-as f end = end
+each-as f (step {row} p ps) = step (f row p) (each-as f ps)
+
+-- which steps a burning light allows, but for ticks
+calm-green : (d : ℕ) (row : Row) → NoGreenNoWalk d row → Calm green d row
+unfolding allows isTick orElse
+calm-green d row no-row is = go (row .kind) (no-row .no-green is) (no-row .no-walk is)
+  where
+    go : (k : Kind) → (k ≡ Green → ⊥) → (k ≡ Walk → ⊥) → isTick k ≡ false → allows k green ≡ false
+    go Card g w t = refl
+    go Decide g w t = refl
+    go Green g w t = absurd (g refl)
+    go Red g w t = refl
+    go Walk g w t = absurd (w refl)
+    go Tick g w t = t
+    go Passed g w t = refl
+    go Lapsed g w t = refl
+    go Dark g w t = refl
+    go Ack g w t = refl
+    go Unknown g w t = refl
+
+calm-red : (d : ℕ) (row : Row) → NoRed d row → Calm red d row
+unfolding allows isTick orElse
+calm-red d row no-row is = go (row .kind) (no-row .no-red is)
+  where
+    go : (k : Kind) → (k ≡ Red → ⊥) → isTick k ≡ false → allows k red ≡ false
+    go Card g t = refl
+    go Decide g t = refl
+    go Green g t = refl
+    go Red g t = absurd (g refl)
+    go Walk g t = refl
+    go Tick g t = t
+    go Passed g t = refl
+    go Lapsed g t = refl
+    go Dark g t = refl
+    go Ack g t = refl
+    go Unknown g t = refl
+
+-- "A green door that gets neither another `green` nor a `walk` is expired after exactly as many of its own ticks as its
+-- countdown says", whatever happens at other doors: with fewer ticks it is green, its countdown less the ticks; ..
+pub green-burns : (r : Record) (d h n : ℕ) (rows : List Row) → Shaped r → Sound r → d < r .doors → doorOf r d ≡ door green h n
+    → Each (NoGreenNoWalk d) rows → ticks d rows < n → doorOf (lastOf r rows) d ≡ door green h (n - ticks d rows)
+unfolding lit orElse
+green-burns r d h n rows sh s hd at quiet few =
+    calm-burns green d h rows (each-as (calm-green d) quiet) r n
+    (record { shaped = sh; sound = s; exists = hd; burns = refl; now = at; more = few }) .now
+
+-- .. and the tick with which they are as many makes it expired, still holding the person
+pub green-expires : (r : Record) (d h n p : ℕ) (rows : List Row) → Shaped r → Sound r → d < r .doors → doorOf r d ≡ door green h n
+    → Each (NoGreenNoWalk d) rows → ticks d rows + 1 ≡ n → doorOf (stepOf (lastOf r rows) Tick d p .next) d ≡ door expired h 0
+unfolding lit orElse burnt
+green-expires r d h n p rows sh s hd at quiet last =
+    calm-ends green d h rows (each-as (calm-green d) quiet) r n p
+    (record { shaped = sh; sound = s; exists = hd; burns = refl; now = at; more = omega arith }) last
+
+-- the same of a red door that gets no other `red`
+pub red-burns : (r : Record) (d h n : ℕ) (rows : List Row) → Shaped r → Sound r → d < r .doors → doorOf r d ≡ door red h n
+    → Each (NoRed d) rows → ticks d rows < n → doorOf (lastOf r rows) d ≡ door red h (n - ticks d rows)
+unfolding lit orElse
+red-burns r d h n rows sh s hd at quiet few =
+    calm-burns red d h rows (each-as (calm-red d) quiet) r n
+    (record { shaped = sh; sound = s; exists = hd; burns = refl; now = at; more = few }) .now
+
+pub red-dims : (r : Record) (d h n p : ℕ) (rows : List Row) → Shaped r → Sound r → d < r .doors → doorOf r d ≡ door red h n
+    → Each (NoRed d) rows → ticks d rows + 1 ≡ n → doorOf (stepOf (lastOf r rows) Tick d p .next) d ≡ door dimmed h 0
+unfolding lit orElse burnt
+red-dims r d h n p rows sh s hd at quiet last =
+    calm-ends red d h rows (each-as (calm-red d) quiet) r n p
+    (record { shaped = sh; sound = s; exists = hd; burns = refl; now = at; more = omega arith }) last
+
+-- ---- a whole list of steps
+
+-- a sound record stays sound over a list of steps
+pub run-sound : (r : Record) (rows : List Row) → Shaped r → Sound r → Sound (lastOf r rows)
+unfolding lastOf
+run-sound r [] sh s = s
+run-sound r (row ∷ rows) sh s =
+    run-sound (rowOf r row .next) rows (shaped-stays r (row .kind) (row .at) (row .person) sh)
+    (sound-stays r (row .kind) (row .at) (row .person) sh s)
+
+pub run-shaped : (r : Record) (rows : List Row) → Shaped r → Shaped (lastOf r rows)
+unfolding lastOf
+run-shaped r [] sh = sh
+run-shaped r (row ∷ rows) sh = run-shaped (rowOf r row .next) rows (shaped-stays r (row .kind) (row .at) (row .person) sh)
+
+-- and keeps its tables
+pub run-tables : (r : Record) (rows : List Row) → tablesOf (lastOf r rows) ≡ tablesOf r
+unfolding lastOf
+run-tables r [] = refl
+run-tables r (row ∷ rows) = run-tables (rowOf r row .next) rows ∙ tables-stay r (row .kind) (row .at) (row .person)

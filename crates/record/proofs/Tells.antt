@@ -1,0 +1,281 @@
+-- The test that the code computes tells soundness exactly: `sound-tells`. Assumes nothing.
+use Prim.Native.Nat.{ℕ, _+_, _*_, _/_, _%_, _≤_, _<_}
+use mathlib.Core.Path.{_≡_, refl, sym, ap, subst, _∙_}
+use mathlib.Core.Bool.{Bool, true, false, not, cond, true≢false, false≢true}
+use mathlib.Core.List.{List}
+use mathlib.Core.Logic.{⊎-elim}
+use native.Mathlib.Nat.{div-add-mod'}
+use native.Mathlib.Omega.{arith}
+use borrow.Author.Tests.{ltb-true, ltb-false, lt-ltb, le-ltb}
+use lib.ListN.{length, getD, List·getD-eq-default}
+use lib.Dec.{ltb, lit≤}
+use Rattle.rules.specs.Tables.{mayBe, orElse, andAlso}
+use Rattle.rules.specs.Below.{allBelow, Tells}
+use Rattle.rules.specs.Rules.{Lawful}
+use Rattle.rules.proofs.Answers.{lawful-tells}
+use Rattle.rules.proofs.Laws.{clash, denied as untrue, tell-lt, tell-le, tell-eq, tell-itself, tell-and, tell-all, tell-as}
+use Rattle.record.specs.declared.record.Door.{Door}
+use Rattle.record.specs.declared.record.Record.{Record}
+use Rattle.record.specs.Phase.{closed, keeps, grants, lit, leastCount, mostCount}
+use Rattle.record.specs.Doors.{doorOf, freeDoor, Shaped}
+use Rattle.record.specs.Grants.{GrantAt, hasGrant}
+use Rattle.record.specs.Sound.{rightAt, ZeroBeyond, Sound}
+use Rattle.record.specs.SoundTest.{zeroAt, zeroFrom, rightFits, rightsFit, placeFits, placesFit, holderFits, fieldsFit, isFree, doorFits, doorsFit}
+use Rattle.record.specs.SoundTest.{grantFits, grantsFit, soleGrant, soleGrants, zeroBeyond, doorsSound, soundB}
+use Rattle.record.proofs.Cases.{below-or-not}
+use Rattle.record.proofs.Granting.{no-grant, none-found}
+
+-- ---- tests put together
+
+-- the first test spares the second
+tell-unless : (a : Bool) {b : Bool} {N Q : Type 0} → (a ≡ false → N) → (N → a ≡ false) → Tells b Q → Tells (orElse a b) (N → Q)
+unfolding orElse
+tell-unless true f g t = record { yes = λ _ n. absurd (true≢false (g n)); back = λ _. refl }
+tell-unless false f g t = record { yes = λ e _. t .yes e; back = λ q. t .back (q (f refl)) }
+
+-- a test that is negated spares the second where it fails
+tell-when : (a : Bool) {b : Bool} {Q : Type 0} → Tells b Q → Tells (orElse (not a) b) (a ≡ true → Q)
+tell-when a t = tell-unless (not a) (λ e. flip a e) (λ e. rw e) t
+  where
+    flip : (a : Bool) → not a ≡ false → a ≡ true
+    flip true e = refl
+    flip false e = absurd (true≢false e)
+
+-- a choice between two tests
+tell-cond : (a : Bool) {x y : Bool} {N P Q : Type 0} → (a ≡ true → N) → (N → a ≡ true) → Tells x P → Tells y Q
+    → Tells (cond a x y) ((N → P) × ((N → ⊥) → Q))
+tell-cond true f g s t = record { yes = λ e. (λ _. s .yes e, λ n. absurd (n (f refl))); back = λ p. s .back (p .0 (f refl)) }
+tell-cond false f g s t = record { yes = λ e. (λ n. absurd (false≢true (g n)), λ _. t .yes e); back = λ p. t .back (p .1 (λ n. false≢true (g n))) }
+
+tell-fails : (a : Bool) → Tells (not a) (a ≡ false)
+tell-fails true = record { yes = λ e. absurd (false≢true e); back = λ e. absurd (true≢false e) }
+tell-fails false = record { yes = λ _. refl; back = λ _. refl }
+
+-- what holds below the length of a list, and by default past it, holds everywhere
+tell-list : (test : ℕ → Bool) (P : ℕ → Type 0) (n : ℕ) → ((i : ℕ) → Tells (test i) (P i)) → ((i : ℕ) → n ≤ i → P i) → Tells (allBelow test n) ((i : ℕ) → P i)
+tell-list test P n t past =
+    tell-as (λ all i. ⊎-elim (λ h. all i h) (λ h. past i h) (below-or-not i n)) (λ all i _. all i) (tell-all test P n t)
+
+-- ---- the tables beyond the counts
+
+tell-zero : (count : ℕ) (table : List ℕ) → Tells (zeroFrom count table) ((i : ℕ) → count ≤ i → getD table i 0 ≡ 0)
+unfolding zeroFrom zeroAt
+tell-zero count table =
+    tell-list (zeroAt count table) (λ i. count ≤ i → getD table i 0 ≡ 0) (length table)
+    (λ i. tell-unless (ltb i count) (ltb-false i count) (le-ltb i count) (tell-eq (getD table i 0) 0))
+    (λ i h _. List·getD-eq-default table 0 h)
+
+-- a right at i is one of a person to a location other than 0
+abbrev RightOk : ℕ → ℕ → List Bool → ℕ → Type 0
+RightOk people locations right i = getD right i false ≡ true → (i / 32 < people) × ((0 < i % 32) × (i % 32 < locations))
+
+tell-rights : (people locations : ℕ) (right : List Bool) → Tells (rightsFit people locations right) ((i : ℕ) → RightOk people locations right i)
+unfolding rightsFit rightFits
+tell-rights people locations right =
+    tell-list (rightFits people locations right) (RightOk people locations right) (length right)
+    (λ i. tell-when (getD right i false) (tell-and (tell-lt (i / 32) people) (tell-and (tell-lt 0 (i % 32)) (tell-lt (i % 32) locations))))
+    (λ i h e. clash e (List·getD-eq-default right false h))
+
+abbrev PlaceOk : ℕ → List Bool → List ℕ → ℕ → Type 0
+PlaceOk people right place p = (p < people → mayBe right p (getD place p 0) ≡ true) × ((p < people → ⊥) → getD place p 0 ≡ 0)
+
+tell-places : (people : ℕ) (right : List Bool) (place : List ℕ) → Tells (placesFit people right place) ((p : ℕ) → PlaceOk people right place p)
+unfolding placesFit placeFits mayBe orElse
+tell-places people right place =
+    tell-list (placeFits people right place) (PlaceOk people right place) (length place)
+    (λ p. tell-cond (ltb p people) (ltb-true p people) (lt-ltb p people) (tell-itself _) (tell-eq _ 0))
+    (λ p h. let z = List·getD-eq-default place 0 h in (λ _. rw z, λ _. z))
+
+-- ---- the doors
+
+abbrev FieldsOk : ℕ → Door → Type 0
+FieldsOk people c =
+    (c .phase ≤ closed)
+    × (((keeps (c .phase) ≡ true → c .holder < people) × ((keeps (c .phase) ≡ true → ⊥) → c .holder ≡ 0))
+    × ((leastCount (c .phase) ≤ c .count) × (c .count ≤ mostCount (c .phase))))
+
+tell-fields : (people : ℕ) (c : Door) → Tells (fieldsFit people c) (FieldsOk people c)
+unfolding fieldsFit holderFits
+tell-fields people c =
+    tell-and (tell-le (c .phase) closed)
+    (tell-and (tell-cond (keeps (c .phase)) (λ e. e) (λ e. e) (tell-lt (c .holder) people) (tell-eq (c .holder) 0))
+    (tell-and (tell-le (leastCount (c .phase)) (c .count)) (tell-le (c .count) (mostCount (c .phase)))))
+
+tell-free : (c : Door) → Tells (isFree c) (c ≡ freeDoor)
+unfolding isFree
+tell-free c =
+    tell-as {Q = c ≡ freeDoor} (λ t i. record { phase = t .0 i; holder = t .1 .0 i; count = t .1 .1 i })
+    (λ e. (ap (λ (x : Door). x .phase) e, (ap (λ (x : Door). x .holder) e, ap (λ (x : Door). x .count) e)))
+    (tell-and (tell-eq (c .phase) 0) (tell-and (tell-eq (c .holder) 0) (tell-eq (c .count) 0)))
+
+abbrev AtDoor : Record → ℕ → Type 0
+AtDoor r d = (d < r .doors → FieldsOk (r .people) (doorOf r d)) × ((d < r .doors → ⊥) → doorOf r d ≡ freeDoor)
+
+-- past the arrays' ends every door reads as free
+past-free : (r : Record) → Shaped r → (d : ℕ) → 64 ≤ d → doorOf r d ≡ freeDoor
+past-free r sh d h =
+    let p : getD (r .phase) d 0 ≡ 0 = List·getD-eq-default (r .phase) 0 (rw (sh .phases) h) in
+    let q : getD (r .holder) d 0 ≡ 0 = List·getD-eq-default (r .holder) 0 (rw (sh .holders) h) in
+    let n : getD (r .count) d 0 ≡ 0 = List·getD-eq-default (r .count) 0 (rw (sh .counts) h) in
+    λ i. record { phase = p i; holder = q i; count = n i }
+
+free-fields : (people : ℕ) → FieldsOk people freeDoor
+unfolding keeps andAlso leastCount lit orElse mostCount
+free-fields people = (lit≤ tt, ((λ e. absurd (false≢true e), λ _. refl), (lit≤ tt, lit≤ tt)))
+
+tell-doors : (r : Record) → Shaped r → Tells (doorsFit (r .people) (r .doors) (r .phase) (r .holder) (r .count)) ((d : ℕ) → AtDoor r d)
+unfolding doorsFit doorFits
+tell-doors r sh =
+    tell-list (doorFits (r .people) (r .doors) (r .phase) (r .holder) (r .count)) (AtDoor r) 64
+    (λ d. tell-cond (ltb d (r .doors)) (ltb-true d (r .doors)) (lt-ltb d (r .doors)) (tell-fields (r .people) (doorOf r d)) (tell-free (doorOf r d)))
+    (λ d h. let z = past-free r sh d h in (λ _. subst (FieldsOk (r .people)) (sym z) (free-fields (r .people)), λ _. z))
+
+abbrev GrantOk : Record → ℕ → Type 0
+GrantOk r d =
+    grants (getD (r .phase) d 0) ≡ true
+    → (getD (r .place) (getD (r .holder) d 0) 0 ≡ getD (r .origin) d 0) × (mayBe (r .right) (getD (r .holder) d 0) (getD (r .destination) d 0) ≡ true)
+
+tell-grants : (r : Record) → Tells (grantsFit (r .doors) (r .origin) (r .destination) (r .right) (r .place) (r .phase) (r .holder)) ((d : ℕ) → d < r .doors → GrantOk r d)
+unfolding grantsFit grantFits
+tell-grants r =
+    tell-all (grantFits (r .origin) (r .destination) (r .right) (r .place) (r .phase) (r .holder)) (GrantOk r) (r .doors)
+    (λ d. tell-when (grants (getD (r .phase) d 0)) (tell-and (tell-eq _ (getD (r .origin) d 0)) (tell-itself _)))
+
+abbrev SoleOk : List ℕ → List ℕ → ℕ → Type 0
+SoleOk phase holder d = grants (getD phase d 0) ≡ true → hasGrant d phase holder (getD holder d 0) ≡ false
+
+tell-sole : (doors : ℕ) (phase holder : List ℕ) → Tells (soleGrants doors phase holder) ((d : ℕ) → d < doors → SoleOk phase holder d)
+unfolding soleGrants soleGrant
+tell-sole doors phase holder =
+    tell-all (soleGrant phase holder) (SoleOk phase holder) doors (λ d. tell-when (grants (getD phase d 0)) (tell-fails _))
+
+-- no two doors hold a grant of one person
+sole-alone : (doors : ℕ) (phase holder : List ℕ) → ((d : ℕ) → d < doors → SoleOk phase holder d) → (d : ℕ) → d < doors
+    → grants (getD phase d 0) ≡ true → (e : ℕ) → (e ≡ d → ⊥) → GrantAt doors phase holder (getD holder d 0) e → ⊥
+sole-alone doors phase holder sole d h g e ne other =
+    ⊎-elim
+    (λ lt. no-grant d phase holder (getD holder d 0) (sole d h g) e (record { exists = lt; holds = other .holds; person = other .person }))
+    (λ le.
+    no-grant e phase holder (getD holder e 0) (sole e (other .exists) (other .holds)) d
+    (record { exists = omega arith; holds = g; person = sym (other .person) }))
+    (below-or-not e d)
+
+-- ---- the whole
+
+-- what the tests tell, each
+record Parts (r : Record) : Type 0 where
+  lawful : Lawful (r .people) (r .locations) (r .doors) (r .origin) (r .destination) (r .exit) (r .right)
+  origins : (d : ℕ) → r .doors ≤ d → getD (r .origin) d 0 ≡ 0
+  destinations : (d : ℕ) → r .doors ≤ d → getD (r .destination) d 0 ≡ 0
+  exits : (l : ℕ) → r .locations ≤ l → getD (r .exit) l 0 ≡ 0
+  outside : getD (r .exit) 0 0 ≡ 0
+  rights : (i : ℕ) → RightOk (r .people) (r .locations) (r .right) i
+  places : (p : ℕ) → PlaceOk (r .people) (r .right) (r .place) p
+  doors : (d : ℕ) → AtDoor r d
+  grant : (d : ℕ) → d < r .doors → GrantOk r d
+  sole : (d : ℕ) → d < r .doors → SoleOk (r .phase) (r .holder) d
+
+tell-parts : (r : Record) → Shaped r → Tells (soundB r) (Parts r)
+unfolding soundB zeroBeyond doorsSound
+tell-parts r sh =
+    tell-as
+    (λ t. record {
+      lawful = t .0;
+      origins = t .1 .0 .0;
+      destinations = t .1 .0 .1 .0;
+      exits = t .1 .0 .1 .1 .0;
+      outside = t .1 .0 .1 .1 .1 .0;
+      rights = t .1 .0 .1 .1 .1 .1;
+      places = t .1 .1 .0;
+      doors = t .1 .1 .1 .0;
+      grant = t .1 .1 .1 .1 .0;
+      sole = t .1 .1 .1 .1 .1;
+    })
+    (λ p. (p .lawful, ((p .origins, (p .destinations, (p .exits, (p .outside, p .rights)))), (p .places, (p .doors, (p .grant, p .sole))))))
+    (tell-and (lawful-tells (r .people) (r .locations) (r .doors) (r .origin) (r .destination) (r .exit) (r .right))
+    (tell-and
+    (tell-and (tell-zero (r .doors) (r .origin))
+    (tell-and (tell-zero (r .doors) (r .destination))
+    (tell-and (tell-zero (r .locations) (r .exit))
+    (tell-and (tell-eq (getD (r .exit) 0 0) 0) (tell-rights (r .people) (r .locations) (r .right))))))
+    (tell-and (tell-places (r .people) (r .right) (r .place))
+    (tell-and (tell-doors r sh) (tell-and (tell-grants r) (tell-sole (r .doors) (r .phase) (r .holder)))))))
+
+parts-sound : (r : Record) → Parts r → Sound r
+parts-sound r t =
+    record {
+      tables = t .lawful;
+      zero-tables = record {
+        origins = t .origins;
+        destinations = t .destinations;
+        exits = t .exits;
+        rights-of = λ p l h k. untrue _ (λ e. let a = t .rights (p * 32 + l) e in omega arith);
+        rights-to = λ p l h k. untrue _ (λ e. let a = t .rights (p * 32 + l) e in omega arith);
+        exit-of-outside = t .outside;
+        rights-to-outside = λ p. untrue _ (λ e. let a = t .rights (p * 32 + 0) e in omega arith);
+      };
+      zero-places = λ p h. t .places p .1 (λ k. omega arith);
+      zero-doors = λ d h. t .doors d .1 (λ k. omega arith);
+      placed = λ p h. t .places p .0 h;
+      doors = λ d h.
+          let f = t .doors d .0 h in
+          record {
+            known = f .0;
+            held = f .1 .0 .0;
+            nobody = λ e. f .1 .0 .1 (λ k. false≢true (sym e ∙ k));
+            least = f .1 .1 .0;
+            most = f .1 .1 .1;
+            alone = sole-alone (r .doors) (r .phase) (r .holder) (t .sole) d h;
+            starts = λ g. t .grant d h g .0;
+            may = λ g. t .grant d h g .1;
+          };
+    }
+
+at-least : {a b : ℕ} → (a < b → ⊥) → b ≤ a
+at-least {a} {b} k = ⊎-elim (λ h. absurd (k h)) (λ h. h) (below-or-not a b)
+
+sound-parts : (r : Record) → Sound r → Parts r
+sound-parts r s =
+    record {
+      lawful = s .tables;
+      origins = z .origins;
+      destinations = z .destinations;
+      exits = z .exits;
+      outside = z .exit-of-outside;
+      rights = rights;
+      places = λ p. (s .placed p, λ k. s .zero-places p (at-least k));
+      doors = λ d. (fields d, λ k. s .zero-doors d (at-least k));
+      grant = λ d h g. (s .doors d h .starts g, s .doors d h .may g);
+      sole = sole;
+    }
+  where
+    z : ZeroBeyond (r .people) (r .locations) (r .doors) (r .origin) (r .destination) (r .exit) (r .right)
+    z = s .zero-tables
+
+    fields : (d : ℕ) → d < r .doors → FieldsOk (r .people) (doorOf r d)
+    fields d h = let o = s .doors d h in (o .known, ((o .held, λ k. o .nobody (untrue _ k)), (o .least, o .most)))
+
+    outside : (p l : ℕ) → l ≤ 0 → rightAt (r .right) p l ≡ false
+    outside p l h = let zero : l ≡ 0 = omega arith in rw zero (z .rights-to-outside p)
+
+    rights : (i : ℕ) → RightOk (r .people) (r .locations) (r .right) i
+    rights i e =
+        let e′ : rightAt (r .right) (i / 32) (i % 32) ≡ true = rw (div-add-mod' i 32) e in
+        let small : i % 32 < 32 = omega arith in (
+          ⊎-elim (λ h. h) (λ h. clash e′ (z .rights-of (i / 32) (i % 32) h small)) (below-or-not (i / 32) (r .people)),
+          (
+            ⊎-elim (λ h. h) (λ h. clash e′ (outside (i / 32) (i % 32) h)) (below-or-not 0 (i % 32)),
+            ⊎-elim (λ h. h) (λ h. clash e′ (z .rights-to (i / 32) (i % 32) h small)) (below-or-not (i % 32) (r .locations)),
+          ),
+        )
+
+    sole : (d : ℕ) → d < r .doors → SoleOk (r .phase) (r .holder) d
+    sole d h g =
+        none-found d (r .phase) (r .holder) (getD (r .holder) d 0)
+        (λ e o.
+        let lt = o .exists in
+        s .doors d h .alone g e (λ is. omega arith) (record { exists = omega arith; holds = o .holds; person = o .person }))
+
+-- the test tells soundness
+pub sound-tells : (r : Record) → Shaped r → Tells (soundB r) (Sound r)
+sound-tells r sh = tell-as (parts-sound r) (sound-parts r) (tell-parts r sh)

@@ -1,0 +1,38 @@
+-- `Record::burnt` meets its contract: the test decides which door is put. Assumes nothing.
+use borrow.Author.Tests.{lt-ltb, le-ltb}
+use borrow.Author.Needs.{needs}
+use Rattle.record.proofs.record.Record.burnt.Statement.{statement}
+use Rattle.record.proofs.record.Record.burnt.Tie as tie
+
+sub-new : tie.Need-sub-new
+sub-new c = search needs
+
+new-requires : tie.Need-new-requires
+new-requires c κs = search needs
+
+turned-requires : tie.Need-turned-requires
+turned-requires c κs = search needs
+
+returns : tie.Need-returns
+returns c = simp (c .turned .ensures, c .before .new .ensures, lt-ltb _ _ (c .before .before .if1 .taken))
+
+new-requires-2 : tie.Need-new-requires-2
+new-requires-2 c κs = search needs
+
+turned-requires-2 : tie.Need-turned-requires-2
+turned-requires-2 c κs = search needs
+
+returns-2 : tie.Need-returns-2
+returns-2 c = simp (c .turned2 .ensures, c .before .new2 .ensures, le-ltb _ _ (c .before .before .if1 .left))
+
+pub burnt-spec : {M : Type 1} → statement M
+burnt-spec =
+    tie.close
+    (tie.spec
+    sub-new
+    new-requires
+    turned-requires
+    returns
+    new-requires-2
+    turned-requires-2
+    returns-2)

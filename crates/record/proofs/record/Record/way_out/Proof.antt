@@ -1,0 +1,46 @@
+-- `Record::way_out` meets its contract: the tests of `wayAnswerOf`, one after the other. Assumes nothing.
+use mathlib.Core.Path.{ap, _∙_}
+use Rattle.record.specs.Questions.{wayFound, wayAnswerOf, wayWritten}
+use Rattle.record.proofs.Cases.{picks}
+use borrow.Author.Needs.{needs}
+use Rattle.record.proofs.record.Record.way_out.Statement.{statement}
+use Rattle.record.proofs.record.Record.way_out.Tie as tie
+
+is-sound-requires : tie.Need-is-sound-requires
+is-sound-requires c κs = search needs
+
+returns : tie.Need-returns
+unfolding wayAnswerOf wayWritten
+returns c = search picks depth 7
+
+returns-2 : tie.Need-returns-2
+unfolding wayAnswerOf wayWritten
+returns-2 c = search picks depth 7
+
+way-out-requires : tie.Need-way-out-requires
+way-out-requires c κs = search needs
+
+way-told-requires : tie.Need-way-told-requires
+way-told-requires c κs = search needs
+
+same-length : tie.Need-same-length
+same-length c = search needs
+
+returns-3 : tie.Need-returns-3
+unfolding wayAnswerOf wayWritten
+returns-3 c =
+    let told = c .way-told .ensures ∙ ap wayFound (c .before .before .before .way-out .ensures .0) in
+    let written = c .before .before .before .way-out .ensures .1 in
+    (search picks depth 7, search picks depth 7)
+
+pub way-out-spec : {M : Type 1} → statement M
+way-out-spec =
+    tie.close
+    (tie.spec
+    is-sound-requires
+    returns
+    returns-2
+    way-out-requires
+    way-told-requires
+    same-length
+    returns-3)

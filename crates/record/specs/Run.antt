@@ -1,0 +1,94 @@
+-- The run of a list of steps: the fold of `stepOf`.
+use Prim.Native.Nat.{ℕ}
+use mathlib.Core.Bool.{Bool, cond}
+use mathlib.Core.List.{List, [], _∷_}
+use lib.ListN.{length}
+use lib.Seq.{sets}
+use lib.Dec.{leb}
+use Rattle.rules.specs.Tables.{andAlso}
+use Rattle.record.specs.declared.record.Record.{Record}
+use Rattle.record.specs.declared.table.Kind.{Kind}
+use Rattle.record.specs.declared.steps.Step.{Step}
+use Rattle.record.specs.declared.steps.Answer.the-variants.{Done, TooShort, Unsound}
+use Rattle.record.specs.declared.run.Ran.{Ran}
+use Rattle.record.specs.Answers.{numberOf}
+use Rattle.record.specs.Kinds.{kindOf}
+use Rattle.record.specs.SoundTest.{soundB}
+use Rattle.record.specs.Steps.{stepOf}
+
+-- one step of a list: "Each names a door; `card` also a person."
+pub record Row : Type 0 where
+  pub kind : Kind
+  pub at : ℕ
+  pub person : ℕ
+
+-- what the step of a row hands back
+abbrev pub rowOf : Record → Row → Step
+rowOf r row = stepOf r (row .kind) (row .at) (row .person)
+
+-- the record after the steps of a list, one after the other
+unfoldable pub lastOf : Record → List Row → Record
+lastOf r [] = r
+lastOf r (row ∷ rows) = lastOf (rowOf r row .next) rows
+
+-- what is told of each step, one after the other
+unfoldable pub toldOf : (Step → ℕ) → Record → List Row → List ℕ
+toldOf tell r [] = []
+toldOf tell r (row ∷ rows) = tell (rowOf r row) ∷ toldOf tell (rowOf r row .next) rows
+
+-- "A step answers its number, the door's phase afterwards .. and the reason"
+abbrev pub answerTold : Step → ℕ
+answerTold s = numberOf (s .answer)
+
+abbrev pub phaseTold : Step → ℕ
+phaseTold s = s .phase
+
+abbrev pub reasonTold : Step → ℕ
+reasonTold s = s .reason
+
+-- three lent lists of numbers are a list of steps: each step's number, its door and its person
+unfoldable pub rowsOf : List ℕ → List ℕ → List ℕ → List Row
+rowsOf [] doors persons = []
+rowsOf (k ∷ steps) [] persons = []
+rowsOf (k ∷ steps) (d ∷ doors) [] = []
+rowsOf (k ∷ steps) (d ∷ doors) (p ∷ persons) = record { kind = kindOf k; at = d; person = p } ∷ rowsOf steps doors persons
+
+-- each of the other lists has room for as many steps as there are
+unfoldable pub roomFor : ℕ → ℕ → ℕ → ℕ → ℕ → ℕ → Bool
+roomFor steps doors persons answers phases reasons =
+    andAlso (leb steps doors) (andAlso (leb steps persons) (andAlso (leb steps answers) (andAlso (leb steps phases) (leb steps reasons))))
+
+abbrev pub roomIn : List ℕ → List ℕ → List ℕ → List ℕ → List ℕ → List ℕ → Bool
+roomIn steps doors persons answers phases reasons =
+    roomFor (length steps) (length doors) (length persons) (length answers) (length phases) (length reasons)
+
+-- What a run hands back: with an unsound record 14, with a list that is too short 13, and the record as it was; else the
+-- last record.
+unfoldable pub ranOf : Record → List Row → Bool → Ran
+ranOf r rows room =
+    cond (soundB r)
+    (cond room
+    (record { next = lastOf r rows; answer = Done })
+    (record { next = r; answer = TooShort }))
+    (record { next = r; answer = Unsound })
+
+-- And what a lent list holds then: "After a refusal .. every lent list hold[s] what [it] held before."; else what was told of
+-- each step stands in front, and the rest is unaltered.
+unfoldable pub tellingOf : Record → Bool → List ℕ → List ℕ → List ℕ
+tellingOf r room told list = cond (andAlso (soundB r) room) (sets list 0 told) list
+
+-- The run of lent lists: what it hands back, and what the lists of answers, phases and reasons hold then.
+abbrev pub runOf : Record → List ℕ → List ℕ → List ℕ → List ℕ → List ℕ → List ℕ → Ran
+runOf r steps doors persons answers phases reasons = ranOf r (rowsOf steps doors persons) (roomIn steps doors persons answers phases reasons)
+
+abbrev pub answersOf : Record → List ℕ → List ℕ → List ℕ → List ℕ → List ℕ → List ℕ → List ℕ
+answersOf r steps doors persons answers phases reasons =
+    tellingOf r (roomIn steps doors persons answers phases reasons) (toldOf answerTold r (rowsOf steps doors persons)) answers
+
+abbrev pub phasesOf : Record → List ℕ → List ℕ → List ℕ → List ℕ → List ℕ → List ℕ → List ℕ
+phasesOf r steps doors persons answers phases reasons =
+    tellingOf r (roomIn steps doors persons answers phases reasons) (toldOf phaseTold r (rowsOf steps doors persons)) phases
+
+abbrev pub reasonsOf : Record → List ℕ → List ℕ → List ℕ → List ℕ → List ℕ → List ℕ → List ℕ
+reasonsOf r steps doors persons answers phases reasons =
+    tellingOf r (roomIn steps doors persons answers phases reasons) (toldOf reasonTold r (rowsOf steps doors persons)) reasons

@@ -1,0 +1,16 @@
+-- `site::read::refused` meets its contract.
+-- Assumes nothing.
+use Rattle.site.specs.Draft.{noughts, unmarked}
+use borrow.Author.Needs.{needs}
+use Rattle.site.proofs.read.refused.Statement.{statement}
+use Rattle.site.proofs.read.refused.Tie as tie
+
+fresh-requires : tie.Need-fresh-requires
+fresh-requires c κs = search needs
+
+returns : tie.Need-returns
+unfolding noughts unmarked
+returns c = rw (c .fresh .ensures)
+
+pub refused-spec : {M : Type 1} → statement M
+refused-spec = tie.close (tie.spec fresh-requires returns)

@@ -1,0 +1,23 @@
+-- `site::right_fits` meets its contract: each return is decided by the tests before it.
+-- Assumes nothing.
+use borrow.Author.Tests.{le-leb, lt-leb, lt-ltb, le-ltb, eq-eqb, ne-eqb}
+use Rattle.rules.specs.Tables.{andAlso}
+use Rattle.site.specs.Draft.{rightFits}
+use borrow.Author.Needs.{needs}
+use Rattle.site.proofs.right_fits.Statement.{statement}
+use Rattle.site.proofs.right_fits.Tie as tie
+
+returns : tie.Need-returns
+unfolding rightFits andAlso
+returns c = simp (le-ltb _ _ (c .if1 .taken))
+
+returns-2 : tie.Need-returns-2
+unfolding rightFits andAlso
+returns-2 c = simp (lt-ltb _ _ (c .before .if1 .left), lt-leb _ _ (c .if2 .taken))
+
+returns-3 : tie.Need-returns-3
+unfolding rightFits andAlso
+returns-3 c = simp (lt-ltb _ _ (c .before .if1 .left), le-leb _ _ (c .if2 .left))
+
+pub right-fits-spec : {M : Type 1} → statement M
+right-fits-spec = tie.close (tie.spec returns returns-2 returns-3)

@@ -1,0 +1,6 @@
+pub mod Line
+pub mod Draft
+pub mod Site
+pub mod Says
+pub mod Gives
+pub mod Accepted

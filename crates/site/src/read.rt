@@ -1,0 +1,287 @@
+// The whole sheet: its rows go into the tables one by one, and then the tables are judged by the rules of the whole sheet.
+ghost use mathlib.Core.Path.{_≡_};
+ghost use lib.ListN.{length};
+ghost use Rattle.sheet.specs.Rows.{rowsFrom};
+ghost use Rattle.site.specs.Draft.{blankDraft};
+ghost use Rattle.site.specs.Site.{soundFault, verdictOf, linesIn, readLines, blankRecord, acceptedSite, refusedSite};
+ghost use Rattle.site.specs.Site.{judged, settled, siteOf, numberOf, firstPlace, secondPlace};
+use crate::Draft;
+use crate::Fault;
+use crate::is_header;
+use crate::line_of;
+use record::record::Record;
+use rules::Found;
+use rules::RightFound;
+use sheet::cut::RowCut;
+use sheet::cut::cut_row;
+
+// A sheet is at most so many bytes.
+const LIMIT: usize = 49152;
+
+// What is said of a sheet, with the place that is told.
+pub enum Verdict {
+    Accepted,
+    TooLong,
+    BadRow(usize),
+    OutOfRange(usize),
+    Twice(usize),
+    NoSite,
+    NoExit(usize),
+    Stray(usize),
+    NoDoor(usize),
+    NoRight(usize, usize),
+    ShutOut(usize),
+}
+
+// The answer to a sheet: what is said of it, and the fresh record, or a blank one where the sheet is refused.
+pub struct SiteRead {
+    pub verdict: Verdict,
+    pub record: Record,
+}
+
+// How far the rows of a sheet were read: the tables, what is wrong with the last row, and its number.
+pub struct Reading {
+    pub draft: Draft,
+    pub fault: Fault,
+    pub row: usize,
+}
+
+// Whether nothing is wrong with a row.
+fn is_sound(fault: Fault) -> bool
+    ensures { λ r. ⌜ r ≡ soundFault fault ⌝ }
+{
+    match fault {
+        Fault::Sound => true,
+        Fault::Form => false,
+        Fault::NoSite => false,
+        Fault::Range => false,
+        Fault::Twice => false,
+    }
+}
+
+// What is said of a sheet for what is wrong with a row.
+fn verdict_of(fault: Fault, row: usize) -> Verdict
+    ensures { λ r. ⌜ r ≡ verdictOf fault row ⌝ }
+{
+    match fault {
+        Fault::Sound => Verdict::Accepted,
+        Fault::Form => Verdict::BadRow(row),
+        Fault::NoSite => Verdict::NoSite,
+        Fault::Range => Verdict::OutOfRange(row),
+        Fault::Twice => Verdict::Twice(row),
+    }
+}
+
+// The rows of a sheet from a position on, the first of them row 1.
+fn read_rows(s: &[u8], from: usize) -> Reading
+    ensures { λ r. ⌜ r ≡ readLines blankDraft 1 (linesIn (now (s .entry)) (rowsFrom (now (s .entry)) from)) ⌝ }
+{
+    let mut draft = Draft::blank();
+    let mut at = from;
+    let mut row: usize = 1;
+    loop {
+        match cut_row(s, at) {
+            RowCut::Cut(cells, next) => {
+                let taken = draft.take(line_of(s, cells));
+                let fault = taken.fault;
+                let after = taken.draft;
+                if !is_sound(fault) {
+                    return Reading {
+                        draft: after,
+                        fault,
+                        row,
+                    };
+                }
+                draft = after;
+                at = next;
+                row += 1;
+            }
+            RowCut::NoRow => {
+                return Reading {
+                    draft,
+                    fault: Fault::Sound,
+                    row,
+                };
+            }
+            RowCut::Broken(_) => {
+                return Reading {
+                    draft,
+                    fault: Fault::Form,
+                    row,
+                };
+            }
+        }
+    }
+}
+
+// A refused sheet gives no new record.
+fn refused(verdict: Verdict) -> SiteRead
+    ensures { λ r. ⌜ r ≡ refusedSite verdict ⌝ }
+{
+    SiteRead {
+        verdict,
+        record: Record::fresh(0, 0, 0, [0; 64], [0; 64], [0; 32], [false; 2048]),
+    }
+}
+
+impl Draft {
+    // The fresh record of these tables.
+    fn accepted(self) -> SiteRead
+        ensures { λ r. ⌜ r ≡ acceptedSite self ⌝ }
+    {
+        let origin = self.origin;
+        let destination = self.destination;
+        let exit = self.exit;
+        let right = self.right;
+        SiteRead {
+            verdict: Verdict::Accepted,
+            record: Record::fresh(
+                self.people,
+                self.locations,
+                self.doors,
+                origin,
+                destination,
+                exit,
+                right,
+            ),
+        }
+    }
+
+    // Rules 6 to 10 over the whole sheet, each finished before the next.
+    fn judged(self) -> SiteRead
+        ensures { λ r. ⌜ r ≡ judged self ⌝ }
+    {
+        let people = self.people;
+        let locations = self.locations;
+        let doors = self.doors;
+        if let Found::At(l) = rules::first_no_exit(locations, &self.given) {
+            return refused(Verdict::NoExit(l));
+        }
+        if let Found::At(l) = rules::first_stray(locations, &self.exit) {
+            return refused(Verdict::Stray(l));
+        }
+        if let Found::At(l) = rules::first_no_door(
+            locations,
+            doors,
+            &self.origin,
+            &self.destination,
+            &self.exit,
+        ) {
+            return refused(Verdict::NoDoor(l));
+        }
+        if let RightFound::At { person, location } = rules::first_no_right(
+            people,
+            locations,
+            &self.exit,
+            &self.right,
+        ) {
+            return refused(Verdict::NoRight(person, location));
+        }
+        if let Found::At(p) = rules::first_shut_out(
+            people,
+            doors,
+            &self.origin,
+            &self.destination,
+            &self.right,
+        ) {
+            return refused(Verdict::ShutOut(p));
+        }
+        self.accepted()
+    }
+}
+
+impl Reading {
+    // The answer to a sheet of which this was read.
+    fn settled(self) -> SiteRead
+        ensures { λ r. ⌜ r ≡ settled self ⌝ }
+    {
+        let fault = self.fault;
+        let draft = self.draft;
+        let row = self.row;
+        if !is_sound(fault) {
+            return refused(verdict_of(fault, row));
+        }
+        if draft.locations == 0 {
+            return refused(Verdict::NoSite);
+        }
+        draft.judged()
+    }
+}
+
+// The answer to a site sheet: the fresh record that it describes, or what is wrong with it.
+pub fn read_site(s: &[u8]) -> SiteRead
+    ensures { λ r. ⌜ r ≡ siteOf (now (s .entry)) ⌝ }
+{
+    if LIMIT < s.len() {
+        return refused(Verdict::TooLong);
+    }
+    match cut_row(s, 0) {
+        RowCut::Cut(cells, next) => {
+            if !is_header(s, cells) {
+                return refused(Verdict::BadRow(0));
+            }
+            read_rows(s, next).settled()
+        }
+        RowCut::NoRow => refused(Verdict::BadRow(0)),
+        RowCut::Broken(_) => refused(Verdict::BadRow(0)),
+    }
+}
+
+impl Verdict {
+    // The paper's number.
+    pub fn number(self) -> u8
+        ensures { λ r. ⌜ r ≡ numberOf self ⌝ }
+    {
+        match self {
+            Verdict::Accepted => 0,
+            Verdict::TooLong => 1,
+            Verdict::BadRow(_) => 2,
+            Verdict::OutOfRange(_) => 3,
+            Verdict::Twice(_) => 4,
+            Verdict::NoSite => 5,
+            Verdict::NoExit(_) => 6,
+            Verdict::Stray(_) => 7,
+            Verdict::NoDoor(_) => 8,
+            Verdict::NoRight(_, _) => 9,
+            Verdict::ShutOut(_) => 10,
+        }
+    }
+
+    // The place that is told with it: a row, a location or a person; 0 where there is none.
+    pub fn place(self) -> usize
+        ensures { λ r. ⌜ r ≡ firstPlace self ⌝ }
+    {
+        match self {
+            Verdict::Accepted => 0,
+            Verdict::TooLong => 0,
+            Verdict::BadRow(row) => row,
+            Verdict::OutOfRange(row) => row,
+            Verdict::Twice(row) => row,
+            Verdict::NoSite => 1,
+            Verdict::NoExit(location) => location,
+            Verdict::Stray(location) => location,
+            Verdict::NoDoor(location) => location,
+            Verdict::NoRight(person, _) => person,
+            Verdict::ShutOut(person) => person,
+        }
+    }
+
+    // The second place: the location of 9, and 0 for all others.
+    pub fn second_place(self) -> usize
+        ensures { λ r. ⌜ r ≡ secondPlace self ⌝ }
+    {
+        match self {
+            Verdict::NoRight(_, location) => location,
+            Verdict::Accepted => 0,
+            Verdict::TooLong => 0,
+            Verdict::BadRow(_) => 0,
+            Verdict::OutOfRange(_) => 0,
+            Verdict::Twice(_) => 0,
+            Verdict::NoSite => 0,
+            Verdict::NoExit(_) => 0,
+            Verdict::Stray(_) => 0,
+            Verdict::NoDoor(_) => 0,
+            Verdict::ShutOut(_) => 0,
+        }
+    }
+}
