@@ -2,14 +2,14 @@
 -- whole service of a refusal, a lapse and a passage. Assumes nothing.
 use Prim.Native.Nat.{ℕ, zero, suc, _<_, _-_}
 use mathlib.Core.Path.{_≡_, refl, sym, ap, subst, _∙_}
-use mathlib.Core.Bool.{Bool, true, false, not, cond, false≢true}
+use mathlib.Core.Bool.{true, false, cond, false≢true}
 use mathlib.Core.Logic.{⊎-elim}
 use mathlib.Core.List.{List, [], _∷_}
 use native.Mathlib.Omega.{arith}
 use borrow.Author.Tests.{lt-ltb, ne-eqb}
 use lib.ListN.{getD, set}
 use lib.Seq.{set-set}
-use lib.Dec.{eqb, ltb}
+use lib.Dec.{eqb}
 use Rattle.rules.specs.Tables.{orElse, andAlso}
 use Rattle.rules.proofs.Laws.{clash}
 use Rattle.record.specs.declared.record.Door.{Door}
@@ -23,12 +23,13 @@ use Rattle.record.specs.Doors.{door, freeDoor, doorOf, tablesOf, putDoor, putAt
 use Rattle.record.specs.Grants.{GrantAt}
 use Rattle.record.specs.Sound.{Sound}
 use Rattle.record.specs.Kinds.{allows, namesPerson}
-use Rattle.record.specs.Steps.{reasonFor, First, none, away, barred, busy, turns, effect, act, doing, soundStep, exist, stepOf}
+use Rattle.record.specs.Steps.{reasonFor, First, none, away, barred, busy, turns, effect, act, doing, stepOf}
 use Rattle.record.specs.Run.{Row, rowOf, lastOf}
 use Rattle.record.proofs.Cases.{same-or-not}
 use Rattle.record.proofs.Keep.{put-same, put-other, put-shaped, at-shaped}
 use Rattle.record.proofs.Right.{reason-only}
-use Rattle.record.proofs.Laws.{sound-steps, sound-stays}
+use Rattle.record.proofs.Laws.{allowed-does, sound-stays}
+use Rattle.record.proofs.Tells.{sound-tells}
 use Rattle.demands.specs.Serving.{Decision, Granted, Denied, Ending, Refusal, Passage, Lapse, Entry, entry, isBusy, servedWith, servedAs, stepAt, cardOf, ticked, afterDecide, serviceOf}
 use Rattle.demands.specs.Served.{Acts, end, then, Reads, granting, denying, decideOf}
 use Rattle.demands.specs.Warden.{isPassage, placesBy}
@@ -36,19 +37,10 @@ use Rattle.demands.proofs.Cleared.{clear, cleared, clear-free, put-free
 
 -- ---- steps that act
 
-there : (r : Record) (k : Kind) (d p : ℕ) → d < r .doors → (namesPerson k ≡ true → p < r .people) → exist r k d p ≡ true
-unfolding exist andAlso orElse
-there r k d p hd hp = rw (lt-ltb d (r .doors) hd) (go (namesPerson k) hp)
-  where
-    go : (b : Bool) → (b ≡ true → p < r .people) → orElse (not b) (ltb p (r .people)) ≡ true
-    go true h = lt-ltb p (r .people) (h refl)
-    go false h = refl
-
 -- a step whose numbers exist and which the door's phase allows is done
 pub step-done : (r : Record) (k : Kind) (d p : ℕ) → Shaped r → Sound r → d < r .doors → (namesPerson k ≡ true → p < r .people)
     → allows k (getD (r .phase) d 0) ≡ true → stepOf r k d p ≡ act r d (doing r k d p)
-unfolding soundStep
-step-done r k d p sh s hd hp ok = rw (sound-steps r k d p sh s, there r k d p hd hp, ok)
+step-done r k d p sh s hd hp ok = allowed-does r k d p (record { tested = sound-tells r sh .back s; a-door = hd; a-person = hp; allowed = ok })
 
 -- a door put twice is put as it was put last
 put-put : (x : Record) (d : ℕ) (a b : Door) → putDoor (putDoor x d a) d b ≡ putDoor x d b

@@ -19,7 +19,7 @@ use Rattle.record.proofs.Laws.{places-stay}
 use Rattle.demands.specs.Serving.{Ending, Refusal, Passage, Lapse, Entry, recordedIn}
 use Rattle.demands.specs.Served.{Fresh}
 use Rattle.demands.specs.Warden.{isPassage, placesBy, NoPassage, end, then, StandsBy, never, last, PutByPassages, RefusedMovesNobody}
-use Rattle.demands.proofs.Cleared.{zeros-at}
+use Rattle.record.proofs.Fresh.{zeros-at}
 use Rattle.demands.proofs.Serial.{Serves}
 use Rattle.demands.proofs.Runs.{ServesAll, none, more, serves-both, all-lead, last-both}
 use Rattle.demands.proofs.DemandThree.{all-served}
@@ -76,7 +76,7 @@ stands destination p (e ∷ es) place h =
 pub put-by-passages : (r : Record) → Fresh r → (rows : List Row) → PutByPassages r rows
 put-by-passages r f rows =
     let places : lastOf r rows .place ≡ placesBy (r .destination) (r .place) (recordedIn r rows) = all-moved (all-served r f rows) in
-    let outside : (p : ℕ) → getD (r .place) p 0 ≡ 0 = λ p. ap (λ (x : Record). getD (x .place) p 0) (f .fresh) ∙ zeros-at p in
+    let outside : (p : ℕ) → getD (r .place) p 0 ≡ 0 = λ p. ap (λ (x : Record). getD (x .place) p 0) (f .fresh) ∙ zeros-at 64 p in
     record {
       places = places;
       each = λ p h.

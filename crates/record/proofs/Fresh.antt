@@ -14,11 +14,11 @@ use Rattle.record.specs.Doors.{door, doorOf, freeDoor, zeros, freshRecor
 use Rattle.record.specs.Sound.{ZeroBeyond, DoorOk, Sound}
 use Rattle.record.proofs.Cases.{below-or-not}
 
-zeros-long : (n : ℕ) → length (zeros n) ≡ n
+pub zeros-long : (n : ℕ) → length (zeros n) ≡ n
 unfolding zeros
 zeros-long n = length-replicate n 0
 
-zeros-at : (n i : ℕ) → getD (zeros n) i 0 ≡ 0
+pub zeros-at : (n i : ℕ) → getD (zeros n) i 0 ≡ 0
 unfolding zeros
 zeros-at n i =
     ⊎-elim (λ h. getD-replicate n i 0 0 h) (λ h. List·getD-eq-default (zeros n) 0 (subst (λ (k : ℕ). k ≤ i) (sym (zeros-long n)) h)) (below-or-not i n)
@@ -28,7 +28,7 @@ may-be-outside : (right : List Bool) (p l : ℕ) → l ≡ 0 → mayBe right p l
 unfolding mayBe orElse
 may-be-outside right p l e = rw e
 
-free-ok : (r : Record) (d : ℕ) → DoorOk r d freeDoor
+pub free-ok : (r : Record) (d : ℕ) → DoorOk r d freeDoor
 unfolding keeps grants leastCount mostCount lit andAlso orElse
 free-ok r d =
     record {

@@ -1,8 +1,7 @@
 -- The row cutter and the grammar at one position of a sheet.
 -- Assumes nothing.
-use Prim.Native.Nat.{ℕ, suc, _+_, _-_, _≤_, _<_}
+use Prim.Native.Nat.{ℕ, _+_, _-_, _≤_, _<_}
 use native.Mathlib.Omega.{arith}
-use native.Mathlib.Nat.{add-zero}
 use mathlib.Core.Path.{_≡_, refl, sym, ap, _∙_}
 use mathlib.Core.Bool.{Bool, true, false}
 use mathlib.Core.List.{List, [], _∷_, _++_, append-assoc, append-nil}
@@ -12,17 +11,16 @@ use lib.Dec.{ltb}
 use borrow.Author.Tests.{lt-ltb, ltb-true, ltb-false}
 use Rattle.sheet.specs.declared.cut.Mode.the-variants.{Fresh}
 use Rattle.sheet.specs.declared.cut.Cells.{Cells}
-use Rattle.sheet.specs.declared.cut.RowCut.{RowCut}
-use Rattle.sheet.specs.declared.cut.RowCut.the-variants.{Cut, NoRow, Broken}
+use Rattle.sheet.specs.declared.cut.RowCut.the-variants.{Cut}
 use Rattle.sheet.specs.Grammar.{cr, lf, Row, rowText, RowAt, ended, last}
 use Rattle.sheet.specs.Cut.{emptyAt, noCells, rowFrom, cutRow}
 use Rattle.sheet.specs.Where.{cellsOf, RowHolds}
 use Rattle.sheet.specs.Meaning.{CutRow}
 use Rattle.sheet.proofs.Written.{row-run, by-crlf, by-end}
-use Rattle.sheet.proofs.Found.{in-fresh, RowEnds, row-crlf, row-sheet, RowFound, row-found}
+use Rattle.sheet.proofs.Found.{in-fresh, RowEnds, row-crlf, row-sheet, row-found}
 use Rattle.sheet.proofs.Unique.{no-row-at}
 use Rattle.sheet.proofs.Contents.{row-holds}
-use Rattle.sheet.proofs.Reading.{cut-behind, cut-there}
+use Rattle.sheet.proofs.Reading.{cut-there}
 
 -- a row at the front of a text is read, and the rest of the text is left
 pub row-read : {text : List ℕ} {r : Row} {rest : List ℕ} (i : ℕ) (cells : Cells) → RowAt text r rest

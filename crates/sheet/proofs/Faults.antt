@@ -14,7 +14,7 @@ use Rattle.sheet.specs.declared.cut.Move.{Move}
 use Rattle.sheet.specs.declared.cut.Move.the-variants.{Go, NextField, RowEnd, Wrong}
 use Rattle.sheet.specs.declared.cut.RowCut.{RowCut}
 use Rattle.sheet.specs.declared.cut.RowCut.the-variants.{Cut, NoRow, Broken}
-use Rattle.sheet.specs.Grammar.{quote, comma, cr, lf}
+use Rattle.sheet.specs.Grammar.{quote, cr, lf}
 use Rattle.sheet.specs.Cut.{emptyAt, bareMove, shutMove, moveOf, after, endOf, pushed, rowEnd, rowFrom}
 
 -- a row that ends at byte n

@@ -17,7 +17,7 @@ use Rattle.sheet.specs.declared.cut.FieldCut.{FieldCut}
 use Rattle.sheet.specs.declared.cut.FieldCut.the-variants.{Next, Last, Fault}
 use Rattle.sheet.specs.declared.cut.RowCut.{RowCut}
 use Rattle.sheet.specs.declared.cut.RowCut.the-variants.{Cut, NoRow, Broken}
-use Rattle.sheet.specs.Grammar.{quote, comma, cr, lf, Plain, AllPlain, none, more, Field, bare, quoted, Written, is-bare, is-quoted, escape, fieldText, Row, only, _then_, WrittenRow, written-only, written-then, rowText, RowAt, ended, last}
+use Rattle.sheet.specs.Grammar.{quote, comma, cr, lf, Plain, AllPlain, none, more, Field, bare, quoted, Written, is-bare, is-quoted, escape, fieldText, Row, only, _then_, WrittenRow, written-only, written-then, rowText}
 use Rattle.sheet.specs.Cut.{emptyAt, bareMove, shutMove, moveOf, after, endOf, fieldFrom, pushed, rowEnd, rowFrom}
 
 -- a choice has what both of its sides have

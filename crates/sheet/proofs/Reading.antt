@@ -2,19 +2,18 @@
 -- Assumes nothing.
 use Prim.Native.Nat.{ℕ, zero, suc, _+_, _-_, _≤_, _<_}
 use native.Mathlib.Omega.{arith}
-use mathlib.Core.Path.{_≡_, refl, sym, ap, _∙_}
+use mathlib.Core.Path.{_≡_, refl, ap, _∙_}
 use mathlib.Core.Bool.{Bool, true, false}
 use mathlib.Core.List.{List}
 use lib.ListN.{length}
 use lib.Dec.{ltb}
-use borrow.Author.Tests.{lt-ltb, le-ltb, ltb-true, ltb-false}
+use borrow.Author.Tests.{le-ltb, ltb-true, ltb-false}
 use Rattle.sheet.specs.declared.cut.Cells.{Cells}
 use Rattle.sheet.specs.declared.cut.RowCut.{RowCut}
 use Rattle.sheet.specs.declared.cut.RowCut.the-variants.{Cut, NoRow, Broken}
-use Rattle.sheet.specs.declared.count.Counted.{Counted}
 use Rattle.sheet.specs.Cut.{cutRow}
-use Rattle.sheet.specs.Rows.{Rows, no-more, broken, row, onRow, readRows, rowsFrom, countFrom, countRows}
-use Rattle.sheet.proofs.Steps.{RowPast, cut-within}
+use Rattle.sheet.specs.Rows.{Rows, row, onRow, readRows, rowsFrom, countFrom, countRows}
+use Rattle.sheet.proofs.Steps.{cut-within}
 
 -- behind the sheet there is no row
 pub cut-behind : (s : List ℕ) (at : ℕ) → length s ≤ at → cutRow s at ≡ NoRow

@@ -7,7 +7,7 @@ use mathlib.Core.Bool.{Bool, true, false}
 use mathlib.Core.List.{List, [], _∷_, _++_, append-assoc, append-nil}
 use lib.Dec.{eqb}
 use borrow.Author.Tests.{eqb-true, eqb-false}
-use Rattle.sheet.specs.Grammar.{quote, comma, cr, lf, Plain, AllPlain, none, more, Field, bare, quoted, Written, is-bare, is-quoted, escape, fieldText, Row, only, _then_, WrittenRow, written-only, written-then, rowText, RowAt, ended, last, Sheet, no-row, row}
+use Rattle.sheet.specs.Grammar.{quote, comma, cr, lf, Plain, AllPlain, more, Field, bare, quoted, Written, is-bare, escape, fieldText, Row, only, _then_, WrittenRow, written-only, written-then, rowText, RowAt, ended, last, Sheet, no-row, row}
 
 -- what may stand behind a field
 data Behind : List ℕ → Type 0 where

@@ -5,29 +5,27 @@ use native.Mathlib.Omega.{arith}
 use mathlib.Core.Path.{_≡_, refl, sym, ap, _∙_}
 use mathlib.Core.Logic.{_↔_}
 use mathlib.Core.Bool.{Bool, true, false}
-use mathlib.Core.List.{List, [], _∷_, _++_, append-assoc, append-nil}
+use mathlib.Core.List.{List, [], _∷_, _++_, append-assoc}
 use lib.ListN.{length, take, drop, length-append, length-drop, drop-of-length-le}
-use lib.Seq.{take-at, drop-at}
+use lib.Seq.{take-at}
 use lib.Dec.{ltb}
 use borrow.Author.Tests.{ltb-true, ltb-false}
 use Rattle.sheet.specs.declared.cut.Mode.the-variants.{Fresh}
 use Rattle.sheet.specs.declared.cut.Cells.{Cells}
 use Rattle.sheet.specs.declared.cut.RowCut.{RowCut}
 use Rattle.sheet.specs.declared.cut.RowCut.the-variants.{Cut, NoRow, Broken}
-use Rattle.sheet.specs.declared.count.Counted.{Counted}
 use Rattle.sheet.specs.declared.count.Counted.the-variants.{All, UpTo}
 use Rattle.sheet.specs.Grammar.{cr, lf, Row, rowText, RowAt, ended, last, Sheet, no-row, row, Leads, here, on}
 use Rattle.sheet.specs.Cut.{emptyAt, noCells, rowFrom, cutRow}
-use Rattle.sheet.specs.Where.{cellsOf}
-use Rattle.sheet.specs.Rows.{Rows, no-more, broken, onRow, rowsFrom, countFrom, countRows}
+use Rattle.sheet.specs.Rows.{Rows, onRow, rowsFrom, countFrom, countRows}
 use Rattle.sheet.specs.Rows
-use Rattle.sheet.specs.Meaning.{SheetOf, BrokenAfter, FirstFault, CutRow}
-use Rattle.sheet.proofs.Found.{in-fresh, RowEnds, row-crlf, row-sheet, RowFound, row-found}
+use Rattle.sheet.specs.Meaning.{SheetOf, BrokenAfter, FirstFault}
+use Rattle.sheet.proofs.Found.{in-fresh, row-crlf, row-sheet, RowFound, row-found}
 use Rattle.sheet.proofs.Unique.{row-unique, no-row-at, sheet-unique}
-use Rattle.sheet.proofs.Faults.{EndsAt, Some, some, Stuck, StuckIf, row-stuck}
+use Rattle.sheet.proofs.Faults.{EndsAt, Some, some, Stuck, row-stuck}
 use Rattle.sheet.proofs.Steps.{cut-within}
 use Rattle.sheet.proofs.Reading.{cut-behind, cut-there, rows-next}
-use Rattle.sheet.proofs.Exact.{row-read, rest-shorter, row-there, cut-from, row-is-cut, cut-is-row}
+use Rattle.sheet.proofs.Exact.{row-read, rest-shorter, cut-from, row-is-cut, cut-is-row}
 
 -- ---- rows in front of a text
 

@@ -3,20 +3,20 @@
 use Prim.Native.Nat.{ℕ, suc, _+_}
 use native.Mathlib.Nat.{add-zero, add-assoc}
 use native.Mathlib.Omega.{arith}
-use mathlib.Core.Path.{_≡_, refl, ap, sym, _∙_}
+use mathlib.Core.Path.{_≡_, refl, _∙_}
 use mathlib.Core.Bool.{Bool, true, false, cond}
 use mathlib.Core.List.{List, [], _∷_, _++_, append-assoc}
 use lib.ListN.{length, length-append}
 use lib.Dec.{eqb}
 use borrow.Author.Tests.{ne-eqb}
 use Rattle.sheet.specs.declared.cut.Mode.{Mode}
-use Rattle.sheet.specs.declared.cut.Mode.the-variants.{Fresh, Bare, Open, Shut, Return}
+use Rattle.sheet.specs.declared.cut.Mode.the-variants.{Fresh, Bare, Open, Shut}
 use Rattle.sheet.specs.declared.cut.Cell.{Cell}
 use Rattle.sheet.specs.declared.cut.Cells.{Cells}
 use Rattle.sheet.specs.declared.cut.Move.the-variants.{Go}
 use Rattle.sheet.specs.declared.cut.FieldCut.the-variants.{Next, Last}
 use Rattle.sheet.specs.declared.cut.RowCut.the-variants.{Cut}
-use Rattle.sheet.specs.Grammar.{quote, comma, cr, lf, Plain, AllPlain, none, more, Field, bare, quoted, Written, is-bare, is-quoted, escape, fieldText, Row, only, _then_, WrittenRow, written-only, written-then, rowText}
+use Rattle.sheet.specs.Grammar.{quote, comma, cr, lf, Plain, AllPlain, none, more, Field, bare, quoted, Written, is-bare, escape, fieldText, Row, only, _then_, WrittenRow, written-only, written-then, rowText}
 use Rattle.sheet.specs.Cut.{upTo, emptyAt, bareMove, shutMove, moveOf, fieldFrom, endOf, pushed, rowFrom}
 use Rattle.sheet.specs.Where.{holdsQuote, cellOf, cellsOf}
 

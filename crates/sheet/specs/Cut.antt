@@ -2,7 +2,7 @@
 use Prim.Native.Nat.{ℕ, _+_}
 use mathlib.Core.Bool.{Bool, true, false, cond}
 use mathlib.Core.List.{List, [], _∷_}
-use lib.ListN.{length, getD, drop}
+use lib.ListN.{length, drop}
 use lib.Dec.{ltb, eqb}
 use Rattle.sheet.specs.Grammar.{quote, comma, cr, lf}
 use Rattle.sheet.specs.declared.cut.Mode.{Mode}

@@ -2,8 +2,7 @@
 -- Assumes nothing.
 use Prim.Native.Nat.{ℕ, _+_, _*_}
 use native.Mathlib.Omega.{arith}
-use mathlib.Core.Path.{_≡_}
-use mathlib.Core.Bool.{Bool, true, false, cond}
+use mathlib.Core.Bool.{false}
 use lib.ListN.{getD}
 use lib.Dec.{eqb}
 use Rattle.rules.specs.Tables.{mostLocations}
@@ -12,7 +11,7 @@ use Rattle.site.specs.declared.Line.{Line}
 use Rattle.site.specs.declared.Line.the-variants.{Site, Door, Exit, Right, Bad}
 use Rattle.site.specs.declared.Draft.{Draft}
 use Rattle.site.specs.declared.Taken.{Taken}
-use Rattle.site.specs.Draft.{Bounded, blankDraft, took, refused, siteFits, doorFits, exitFits, rightFits, withSite, withDoor, withExit, withRight, takeSite, takeDoor, takeExit, takeRight, takeLine}
+use Rattle.site.specs.Draft.{Bounded, blankDraft, siteFits, doorFits, exitFits, rightFits, takeSite, takeDoor, takeExit, takeRight, takeLine}
 use Rattle.site.proofs.Fits.{site-in, door-in}
 
 pub bounded-blank : Bounded blankDraft

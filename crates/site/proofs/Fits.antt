@@ -1,11 +1,11 @@
 -- The tests of a row as facts, both ways.
 -- Assumes nothing.
 use Prim.Native.Nat.{ℕ, _≤_, _<_}
-use mathlib.Core.Path.{_≡_, refl}
-use mathlib.Core.Bool.{Bool, true, false, not}
+use mathlib.Core.Path.{_≡_}
+use mathlib.Core.Bool.{true, not}
 use lib.Dec.{leb, ltb, eqb}
 use borrow.Author.Tests.{le-leb, lt-ltb, ne-eqb, leb-true, ltb-true, eqb-false, not-true}
-use Rattle.rules.specs.Tables.{andAlso, mostPeople, mostLocations, mostDoors}
+use Rattle.rules.specs.Tables.{mostPeople, mostLocations, mostDoors}
 use Rattle.rules.proofs.Laws.{and-left, and-right, and-both}
 use Rattle.site.specs.Draft.{siteFits, doorFits, exitFits, rightFits}
 

@@ -3,7 +3,7 @@
 use Prim.Native.Nat.{ℕ, suc, _+_, _*_, _≤_, _<_}
 use native.Mathlib.Omega.{arith}
 use mathlib.Core.Path.{_≡_, refl, sym, ap, subst, _∙_}
-use mathlib.Core.Logic.{_⊎_, ⊎-elim}
+use mathlib.Core.Logic.{⊎-elim}
 use mathlib.Core.Bool.{Bool, true, false, cond, true≢false}
 use mathlib.Core.List.{List, [], _∷_, _++_, append-nil}
 use lib.ListN.{length, getD, set, replicate, length-append, length-set, length-replicate, getD-replicate, List·getD-eq-default, List·getD-append}
@@ -13,12 +13,14 @@ use borrow.Author.Tests.{eq-eqb, ne-eqb}
 use Rattle.rules.specs.Tables.{orElse, andAlso, mostLocations}
 use Rattle.rules.specs.Rules.{InRange}
 use Rattle.record.specs.Sound.{ZeroBeyond}
+use Rattle.record.specs.Doors.{zeros}
+use Rattle.record.proofs.Fresh.{zeros-at, zeros-long}
 use Rattle.record.proofs.Cases.{same-or-not, below-or-not}
 use Rattle.site.specs.declared.Line.{Line}
 use Rattle.site.specs.declared.Line.the-variants.{Site, Door, Exit, Right, Bad}
 use Rattle.site.specs.declared.Draft.{Draft}
-use Rattle.site.specs.Draft.{Bounded, blankDraft, noughts, unmarked, withSite, withDoor, withExit, withRight}
-use Rattle.site.specs.Says.{Holds, peopleIn, locationsIn, originsIn, destinationsIn, isExit, hasExit, exitIn, hasRight}
+use Rattle.site.specs.Draft.{Bounded, blankDraft, unmarked, withSite, withDoor, withExit, withRight}
+use Rattle.site.specs.Says.{Holds, originsIn, destinationsIn, isExit, hasExit, exitIn, hasRight}
 use Rattle.site.proofs.Fits.{SiteIn, DoorIn, ExitIn, RightIn}
 use Rattle.site.proofs.Bounds.{bounded-blank}
 use Rattle.site.proofs.Said.{people-more, locations-more, origins-more, destinations-more, exit-more, right-more, target-more}
@@ -49,37 +51,30 @@ pub record Held (before : List Line) (d : Draft) : Type 0 where
   -- places beyond the counts are 0
   pub zero : Zero d
 
-replicate-at : {A : Type 0} (n k : ℕ) (a : A) → getD (replicate n a) k a ≡ a
-replicate-at n k a = ⊎-elim (λ h. getD-replicate n k a a h) beyond (below-or-not k n)
-  where
-    beyond : n ≤ k → getD (replicate n a) k a ≡ a
-    beyond h = let l : length (replicate n a) ≤ k = rw (length-replicate n a) h in List·getD-eq-default (replicate n a) a l
-
-noughts-at : (n k : ℕ) → getD (noughts n) k 0 ≡ 0
-unfolding noughts
-noughts-at n k = replicate-at n k 0
-
 unmarked-at : (n k : ℕ) → getD (unmarked n) k false ≡ false
 unfolding unmarked
-unmarked-at n k = replicate-at n k false
+unmarked-at n k = ⊎-elim (λ h. getD-replicate n k false false h) beyond (below-or-not k n)
+  where
+    beyond : n ≤ k → getD (replicate n false) k false ≡ false
+    beyond h = let l : length (replicate n false) ≤ k = rw (length-replicate n false) h in List·getD-eq-default (replicate n false) false l
 
 pub held-blank : Held [] blankDraft
-unfolding originsIn destinationsIn hasExit exitIn hasRight noughts unmarked
+unfolding originsIn destinationsIn hasExit exitIn hasRight zeros unmarked
 held-blank = record {
   holds = record {
     people = refl;
     locations = refl;
     doors = refl;
-    origins = noughts-at 64;
-    destinations = noughts-at 64;
-    exits = noughts-at 32;
+    origins = zeros-at 64;
+    destinations = zeros-at 64;
+    exits = zeros-at 32;
     given = unmarked-at 32;
     rights = λ q k h. unmarked-at 2048 (q * mostLocations + k);
   };
   shape = record {
-    origins = length-replicate {A = ℕ} 64 0;
-    destinations = length-replicate {A = ℕ} 64 0;
-    exits = length-replicate {A = ℕ} 32 0;
+    origins = zeros-long 64;
+    destinations = zeros-long 64;
+    exits = zeros-long 32;
     given = length-replicate 32 false;
     rights = length-replicate 2048 false;
   };
@@ -88,12 +83,12 @@ held-blank = record {
   begun = λ n. absurd (n refl);
   ranged = λ n. absurd (n refl);
   zero = record {
-    origins = λ k b. noughts-at 64 k;
-    destinations = λ k b. noughts-at 64 k;
-    exits = λ k b. noughts-at 32 k;
+    origins = λ k b. zeros-at 64 k;
+    destinations = λ k b. zeros-at 64 k;
+    exits = λ k b. zeros-at 32 k;
     rights-of = λ q k b w. unmarked-at 2048 (q * mostLocations + k);
     rights-to = λ q k b w. unmarked-at 2048 (q * mostLocations + k);
-    exit-of-outside = noughts-at 32 0;
+    exit-of-outside = zeros-at 32 0;
     rights-to-outside = λ q. unmarked-at 2048 (q * mostLocations + 0);
   };
 }

@@ -1,14 +1,13 @@
 -- The loop over the rows of a sheet: the answer from here on is the answer from the start.
 -- Assumes nothing.
-use Prim.Native.Nat.{ℕ, _+_, _≤_, _<_}
+use Prim.Native.Nat.{ℕ, _+_, _≤_}
 use native.Mathlib.Omega.{arith}
 use mathlib.Core.Path.{_≡_, refl, ap, _∙_}
-use mathlib.Core.Bool.{Bool, true, false}
+use mathlib.Core.Bool.{true, false}
 use mathlib.Core.List.{List}
-use lib.ListN.{length}
 use Rattle.sheet.specs.declared.cut.Cells.{Cells}
 use Rattle.sheet.specs.declared.cut.RowCut.{RowCut}
-use Rattle.sheet.specs.declared.cut.RowCut.the-variants.{Cut, NoRow, Broken}
+use Rattle.sheet.specs.declared.cut.RowCut.the-variants.{Cut}
 use Rattle.sheet.specs.Cut.{cutRow}
 use Rattle.sheet.specs.Rows.{onRow, rowsFrom}
 use Rattle.sheet.proofs.Reading.{cut-there, rows-next}

@@ -1,20 +1,18 @@
 -- What the rules give of a sheet is what is said of it: no sheet has two answers.
 -- Assumes nothing.
-use Prim.Native.Nat.{ℕ, _+_, _-_, _≤_, _<_}
+use Prim.Native.Nat.{ℕ, _+_, _-_, _≤_}
 use native.Mathlib.Omega.{arith}
-use mathlib.Core.Path.{_≡_, refl, sym, ap, subst, _∙_}
-use mathlib.Core.Bool.{Bool, true, false, cond}
-use mathlib.Core.List.{List, [], _∷_, _++_}
-use lib.ListN.{length, getD, drop}
-use lib.Dec.{ltb, eqb}
-use borrow.Author.Tests.{lt-ltb, le-ltb, eq-eqb, ne-eqb}
+use mathlib.Core.Path.{_≡_, refl, sym, ap, _∙_}
+use mathlib.Core.Bool.{true, false}
+use mathlib.Core.List.{List, []}
+use lib.ListN.{length, getD}
+use borrow.Author.Tests.{lt-ltb, le-ltb, ne-eqb}
 use Rattle.rules.specs.Below.{Smallest, SmallestPair, Answers}
 use Rattle.rules.specs.Way.{LeadsOut}
 use Rattle.rules.specs.Rules.{DoorFrom, FirstLocation}
 use Rattle.rules.specs.declared.Found.the-variants as found
 use Rattle.rules.specs.declared.RightFound.the-variants as pair
-use Rattle.rules.specs.Tests.{firstNoExit, firstStray, firstNoDoor, firstNoRight, firstShutOut}
-use Rattle.rules.proofs.Laws.{clash}
+use Rattle.rules.specs.Tests.{firstNoExit, firstStray, firstNoDoor, firstNoRight}
 use Rattle.rules.proofs.Answers.{rule-6, rule-7, rule-8, rule-9, rule-10}
 use Rattle.record.proofs.Cases.{either}
 use Rattle.sheet.specs.declared.cut.RowCut.{RowCut}
@@ -31,16 +29,15 @@ use Rattle.site.specs.declared.Draft.{Draft}
 use Rattle.site.specs.declared.Fault.{Fault}
 use Rattle.site.specs.declared.Fault.the-variants as fault
 use Rattle.site.specs.declared.read.Verdict.{Verdict}
-use Rattle.site.specs.declared.read.Verdict.the-variants.{Accepted, TooLong, BadRow, NoSite, NoExit, Stray, NoDoor, NoRight, ShutOut}
+use Rattle.site.specs.declared.read.Verdict.the-variants.{Accepted, BadRow, NoExit, Stray, NoDoor, NoRight, ShutOut}
 use Rattle.site.specs.declared.read.SiteRead.{SiteRead}
-use Rattle.site.specs.declared.read.Reading.{Reading}
 use Rattle.site.specs.Line.{headerAt}
-use Rattle.site.specs.Draft.{blankDraft, takeLine}
-use Rattle.site.specs.Site.{limit, soundFault, verdictOf, linesIn, reading, readLines, acceptedSite, judged, settled, afterHeader, siteOf}
+use Rattle.site.specs.Draft.{blankDraft}
+use Rattle.site.specs.Site.{limit, verdictOf, linesIn, readLines, acceptedSite, judged, settled, afterHeader, siteOf}
 use Rattle.site.specs.Says.{HeaderRow, InRange, site-range, door-range, exit-range, right-range, NotFirst, door-first, exit-first, right-first, Fine, Wrong, of-form, no-site, out-of-range, said-again}
-use Rattle.site.specs.Gives.{Headed, FineLines, all-fine, one-fine, WrongAt, here, further, draftOf, Tabled, Six, Seven, Eight, ExitRight, Nine, Ten, Obeys, Gives, gives-0, gives-1, gives-header, gives-row, gives-5, gives-6, gives-7, gives-8, gives-9, gives-10}
+use Rattle.site.specs.Gives.{Headed, FineLines, one-fine, WrongAt, here, further, draftOf, Tabled, Six, Seven, Eight, ExitRight, Nine, Ten, Obeys, Gives, gives-0, gives-1, gives-header, gives-row, gives-5, gives-6, gives-7, gives-8, gives-9, gives-10}
 use Rattle.site.proofs.Held.{Held, Ranged, held-blank}
-use Rattle.site.proofs.Outcome.{Outcome, fine, wrong, outcome}
+use Rattle.site.proofs.Outcome.{fine}
 use Rattle.site.proofs.Rows.{headerFrom, header-same, header-is, is-header-row}
 use Rattle.site.proofs.Text.{text-says, text-unique}
 use Rattle.site.proofs.Verdicts.{ReadOf, all, stopped, read-of}

@@ -1,9 +1,9 @@
 -- What becomes of a line: it is right and goes into the tables, or something is wrong with it and the tables stay.
 -- Assumes nothing.
-use Prim.Native.Nat.{ℕ, _+_, _*_, _≤_, _<_}
+use Prim.Native.Nat.{ℕ, _+_, _*_, _<_}
 use native.Mathlib.Omega.{arith}
 use mathlib.Core.Path.{_≡_, refl, sym, ap, subst, _∙_}
-use mathlib.Core.Bool.{Bool, true, false, cond}
+use mathlib.Core.Bool.{false, cond}
 use mathlib.Core.List.{List, [], _∷_, _++_}
 use lib.ListN.{length, getD}
 use lib.Dec.{eqb}
@@ -19,7 +19,7 @@ use Rattle.site.specs.declared.Fault.the-variants as fault
 use Rattle.site.specs.declared.Taken.{Taken}
 use Rattle.site.specs.Draft.{took, refused, siteFits, doorFits, exitFits, rightFits, withSite, withDoor, withExit, withRight, takeSite, takeDoor, takeExit, takeRight, takeLine}
 use Rattle.site.specs.Site.{soundFault}
-use Rattle.site.specs.Says.{peopleIn, locationsIn, originsIn, hasExit, hasRight, InRange, site-range, door-range, exit-range, right-range, Again, second-site, second-exit, same-right, NotFirst, door-first, exit-first, right-first, Fine, Wrong, of-form, no-site, out-of-range, said-again}
+use Rattle.site.specs.Says.{hasExit, hasRight, InRange, site-range, door-range, exit-range, right-range, Again, second-site, second-exit, same-right, NotFirst, door-first, exit-first, right-first, Fine, Wrong, of-form, no-site, out-of-range, said-again}
 use Rattle.site.proofs.Fits.{SiteIn, DoorIn, ExitIn, RightIn, site-in, door-in, exit-in, right-in, site-fit, door-fit, exit-fit, right-fit}
 use Rattle.site.proofs.Held.{Held, held-site, held-door, held-exit, held-right}
 

@@ -4,12 +4,12 @@ use Prim.Native.Nat.{ℕ}
 use native.Mathlib.Omega.{arith}
 use mathlib.Core.Path.{_≡_, refl, sym, ap, _∙_}
 use mathlib.Core.Bool.{Bool, true, false, cond, true≢false}
-use mathlib.Core.List.{List, [], _∷_}
+use mathlib.Core.List.{List}
 use lib.ListN.{length}
 use lib.Dec.{eqb}
-use borrow.Author.Tests.{eq-eqb, ne-eqb, eqb-true, eqb-false}
+use borrow.Author.Tests.{eq-eqb, eqb-true, eqb-false}
 use Rattle.rules.specs.Tables.{andAlso}
-use Rattle.rules.proofs.Laws.{clash, and-left, and-right, and-both}
+use Rattle.rules.proofs.Laws.{clash, and-left, and-right}
 use Rattle.record.proofs.Cases.{either}
 use Rattle.sheet.specs.declared.cut.Cell.{Cell}
 use Rattle.sheet.specs.declared.cut.Cells.{Cells}
@@ -17,7 +17,7 @@ use Rattle.sheet.specs.declared.say.Number.{Number}
 use Rattle.sheet.specs.declared.say.Number.the-variants as number
 use Rattle.sheet.specs.Grammar.{Row, Field, content, fields}
 use Rattle.sheet.specs.Where.{holdsQuote, fieldOf, CellHolds, RowHolds}
-use Rattle.sheet.specs.Say.{ProperNumber, sameBytes, contentAt, isWord, numberOf, numberAt}
+use Rattle.sheet.specs.Say.{ProperNumber, sameBytes, isWord, numberOf, numberAt}
 use Rattle.sheet.proofs.Saying.{same-self, same-true, same-false, proper-read, read-proper}
 use Rattle.sheet.proofs.Contents.{CellTells, whole, with-quote, tells, digits-no-quote}
 use Rattle.site.specs.declared.Word.{Word}

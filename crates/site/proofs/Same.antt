@@ -9,15 +9,13 @@ use lib.ListN.{length, getD, List·getD-map}
 use borrow.Author.Tests.{le-ltb}
 use Rattle.sheet.specs.Cut.{noCells}
 use Rattle.sheet.specs.Where.{cellsOf, fieldOf}
-use Rattle.sheet.specs.Grammar.{Row, RowAt, Field, bare, content, fields, Sheet, no-row, row}
+use Rattle.sheet.specs.Grammar.{Row, RowAt, bare, content, fields, Sheet, no-row, row}
 use Rattle.sheet.proofs.Unique.{row-unique}
 use Rattle.sheet.proofs.Exact.{row-is-cut, cut-is-row}
-use Rattle.site.specs.declared.Line.{Line}
 use Rattle.site.specs.declared.read.Verdict.the-variants.{BadRow}
 use Rattle.site.specs.Line.{headerAt}
 use Rattle.site.specs.Site.{limit, refusedSite, afterHeader, siteOf}
 use Rattle.site.specs.Says.{contents, TextSays, nothing, a-row}
-use Rattle.site.specs.Gives.{Headed}
 use Rattle.site.proofs.Rows.{lineFrom, headerFrom, header-same, header-is, says-from}
 use Rattle.site.proofs.Only.{headed-reads}
 

@@ -18,7 +18,6 @@ use Rattle.sheet.proofs.Reading.{cut-behind, cut-there, rows-next}
 use Rattle.sheet.proofs.Unique.{row-unique, no-row-at}
 use Rattle.sheet.proofs.Exact.{row-is-cut, cut-is-row}
 use Rattle.site.specs.declared.Line.{Line}
-use Rattle.site.specs.declared.Line.the-variants.{Bad}
 use Rattle.site.specs.Line.{lineAt}
 use Rattle.site.specs.Site.{linesIn}
 use Rattle.site.specs.Says.{SaysSo, TextSays, nothing, a-row, no-row-there}

@@ -1,24 +1,21 @@
 -- The theorems of the crate `site`.
 -- Assumes nothing.
-use Prim.Native.Nat.{ℕ, _≤_, _<_}
-use mathlib.Core.Path.{_≡_, refl, sym, ap, subst, _∙_}
+use Prim.Native.Nat.{ℕ, _≤_}
+use mathlib.Core.Path.{_≡_, sym, ap, subst}
 use mathlib.Core.Logic.{_↔_}
-use mathlib.Core.Bool.{Bool, true}
 use mathlib.Core.List.{List, map}
 use lib.ListN.{length}
 use Rattle.rules.specs.Rules.{Lawful}
 use Rattle.record.specs.Sound.{Sound}
-use Rattle.record.specs.Doors.{Shaped, freshRecord}
+use Rattle.record.specs.Doors.{Shaped}
 use Rattle.record.proofs.Fresh.{fresh-sound, fresh-shaped}
-use Rattle.site.specs.declared.Draft.{Draft}
 use Rattle.site.specs.declared.read.Verdict.{Verdict}
 use Rattle.site.specs.declared.read.Verdict.the-variants.{Accepted}
 use Rattle.sheet.specs.Grammar.{Row, Sheet}
 use Rattle.site.specs.Site.{limit, siteOf}
 use Rattle.site.specs.Says.{contents}
-use Rattle.site.specs.Gives.{Tabled, Obeys, Gives, gives-0}
+use Rattle.site.specs.Gives.{Obeys, Gives, gives-0}
 use Rattle.site.specs.Accepted.{AcceptedRecord}
-use Rattle.site.proofs.Held.{Held}
 use Rattle.site.proofs.Verdicts.{site-gives}
 use Rattle.site.proofs.Same.{same-answer}
 use Rattle.site.proofs.Only.{gives-site, accepted-obeys, accepted-record, tabled-held}

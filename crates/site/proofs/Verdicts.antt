@@ -1,18 +1,18 @@
 -- What is said of a sheet is what the rules give, for each number.
 -- Assumes nothing.
-use Prim.Native.Nat.{ℕ, _+_, _≤_, _<_}
+use Prim.Native.Nat.{ℕ, _+_, _≤_}
 use native.Mathlib.Omega.{arith}
 use mathlib.Core.Path.{_≡_, refl, sym, ap, subst, _∙_}
-use mathlib.Core.Bool.{Bool, true, false, cond}
+use mathlib.Core.Bool.{true, false}
 use mathlib.Core.List.{List, [], _∷_, _++_, append-assoc, append-nil}
-use lib.ListN.{length, getD, drop}
+use lib.ListN.{length}
 use lib.Dec.{ltb, eqb}
-use borrow.Author.Tests.{ltb-true, ltb-false, lt-ltb, le-ltb, eqb-true, eqb-false, eq-eqb, ne-eqb}
+use borrow.Author.Tests.{ltb-true, ltb-false, eqb-true, eqb-false}
 use Rattle.rules.specs.declared.Found.{Found}
 use Rattle.rules.specs.declared.Found.the-variants as found
 use Rattle.rules.specs.declared.RightFound.{RightFound}
 use Rattle.rules.specs.declared.RightFound.the-variants as pair
-use Rattle.rules.specs.Below.{Answers, AnswersPair}
+use Rattle.rules.specs.Below.{Answers}
 use Rattle.rules.specs.Tests.{firstNoExit, firstStray, firstNoDoor, firstNoRight, firstShutOut}
 use Rattle.rules.proofs.Laws.{clash}
 use Rattle.rules.proofs.Answers.{rule-6, rule-7, rule-8, rule-9, rule-10}
@@ -21,26 +21,24 @@ use Rattle.sheet.specs.declared.cut.RowCut.{RowCut}
 use Rattle.sheet.specs.declared.cut.RowCut.the-variants.{Cut, NoRow, Broken}
 use Rattle.sheet.specs.Cut.{cutRow}
 use Rattle.sheet.specs.Rows.{rowsFrom}
-use Rattle.sheet.specs.Grammar.{Row, RowAt}
 use Rattle.sheet.proofs.Unique.{row-unique, no-row-at}
-use Rattle.sheet.proofs.Exact.{row-is-cut, cut-is-row}
+use Rattle.sheet.proofs.Exact.{cut-is-row}
 use Rattle.site.specs.declared.Line.{Line}
 use Rattle.site.specs.declared.Draft.{Draft}
 use Rattle.site.specs.declared.Fault.{Fault}
 use Rattle.site.specs.declared.Fault.the-variants as fault
-use Rattle.site.specs.declared.read.Verdict.{Verdict}
-use Rattle.site.specs.declared.read.Verdict.the-variants.{Accepted, TooLong, BadRow, NoSite, NoExit, Stray, NoDoor, NoRight, ShutOut}
+use Rattle.site.specs.declared.read.Verdict.the-variants.{NoExit, Stray, NoDoor, NoRight, ShutOut}
 use Rattle.site.specs.declared.read.SiteRead.{SiteRead}
 use Rattle.site.specs.declared.read.Reading.{Reading}
 use Rattle.site.specs.Line.{headerAt}
-use Rattle.site.specs.Draft.{blankDraft, refused, takeLine}
-use Rattle.site.specs.Site.{limit, soundFault, verdictOf, linesIn, reading, onTaken, readLines, refusedSite, acceptedSite, unlessFound, unlessPair, judged, settled, afterHeader, siteOf}
-use Rattle.site.specs.Says.{HeaderRow, Fine, Wrong}
-use Rattle.site.specs.Gives.{Headed, FineLines, all-fine, one-fine, WrongAt, here, further, draftOf, Tabled, Six, Seven, Eight, ExitRight, Nine, Ten, Obeys, Gives, gives-0, gives-1, gives-header, gives-row, gives-5, gives-6, gives-7, gives-8, gives-9, gives-10}
+use Rattle.site.specs.Draft.{blankDraft, takeLine}
+use Rattle.site.specs.Site.{limit, soundFault, linesIn, readLines, acceptedSite, unlessFound, unlessPair, judged, settled, afterHeader, siteOf}
+use Rattle.site.specs.Says.{Fine}
+use Rattle.site.specs.Gives.{Headed, FineLines, all-fine, one-fine, WrongAt, here, further, draftOf, Tabled, Six, Seven, Eight, Nine, Gives, gives-0, gives-1, gives-header, gives-row, gives-5, gives-6, gives-7, gives-8, gives-9, gives-10}
 use Rattle.site.proofs.Held.{Held, Ranged, held-blank}
 use Rattle.site.proofs.Outcome.{Outcome, fine, wrong, outcome, nothing-before, some-before}
 use Rattle.site.proofs.Rows.{headerFrom, header-same, header-is, is-header-row}
-use Rattle.site.proofs.Text.{no-row-end, broken-none, text-says, text-unique}
+use Rattle.site.proofs.Text.{no-row-end, broken-none, text-says}
 
 -- ---- the lines of a sheet, read into the tables
 

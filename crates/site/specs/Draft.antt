@@ -4,6 +4,7 @@ use mathlib.Core.Bool.{Bool, true, false, not, cond}
 use mathlib.Core.List.{List}
 use lib.ListN.{getD, set, replicate}
 use lib.Dec.{leb, ltb, eqb}
+use Rattle.record.specs.Doors.{zeros}
 use Rattle.rules.specs.Tables.{andAlso, mostPeople, mostLocations, mostDoors}
 use Rattle.site.specs.declared.Line.{Line}
 use Rattle.site.specs.declared.Line.the-variants.{Site, Door, Exit, Right, Bad}
@@ -12,10 +13,7 @@ use Rattle.site.specs.declared.Fault.{Fault}
 use Rattle.site.specs.declared.Fault.the-variants.{Sound, Form, NoSite, Range, Twice}
 use Rattle.site.specs.declared.Taken.{Taken}
 
--- n numbers 0, n marks not set: lists that stay under their names
-unfoldable pub noughts : ℕ → List ℕ
-noughts n = replicate n 0
-
+-- n marks that aren't set, as a list that stays under this name
 unfoldable pub unmarked : ℕ → List Bool
 unmarked n = replicate n false
 
@@ -24,9 +22,9 @@ blankDraft = record {
   people = 0;
   locations = 0;
   doors = 0;
-  origin = noughts 64;
-  destination = noughts 64;
-  exit = noughts 32;
+  origin = zeros 64;
+  destination = zeros 64;
+  exit = zeros 32;
   given = unmarked 32;
   right = unmarked 2048;
 }

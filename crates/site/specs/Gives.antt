@@ -1,13 +1,13 @@
 -- When a site sheet is accepted, and for each number exactly when it is given, with its place. 01, "Numbers given back".
 use Prim.Native.Nat.{ℕ, _+_, _≤_, _<_}
 use mathlib.Core.Path.{_≡_}
-use mathlib.Core.Bool.{Bool, true, false}
+use mathlib.Core.Bool.{true, false}
 use mathlib.Core.List.{List, [], _∷_, _++_}
 use lib.ListN.{length, getD}
 use Rattle.rules.specs.Tables.{mayBe}
 use Rattle.rules.specs.Below.{Smallest, SmallestPair}
 use Rattle.rules.specs.Way.{LeadsOut}
-use Rattle.rules.specs.Rules.{ExitsGiven, DoorFrom, FirstLocation}
+use Rattle.rules.specs.Rules.{DoorFrom, FirstLocation}
 use Rattle.sheet.specs.Grammar.{Row, RowAt}
 use Rattle.site.specs.declared.Line.{Line}
 use Rattle.site.specs.declared.Draft.{Draft}

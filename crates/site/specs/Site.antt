@@ -10,7 +10,7 @@ use Rattle.rules.specs.declared.RightFound.{RightFound}
 use Rattle.rules.specs.declared.RightFound.the-variants as pair
 use Rattle.rules.specs.Tests.{firstNoExit, firstStray, firstNoDoor, firstNoRight, firstShutOut}
 use Rattle.record.specs.declared.record.Record.{Record}
-use Rattle.record.specs.Doors.{freshRecord}
+use Rattle.record.specs.Doors.{zeros, freshRecord}
 use Rattle.sheet.specs.declared.cut.RowCut.{RowCut}
 use Rattle.sheet.specs.declared.cut.RowCut.the-variants.{Cut, NoRow, Broken}
 use Rattle.sheet.specs.Cut.{cutRow}
@@ -26,7 +26,7 @@ use Rattle.site.specs.declared.read.Verdict.the-variants.{Accepted, TooL
 use Rattle.site.specs.declared.read.SiteRead.{SiteRead}
 use Rattle.site.specs.declared.read.Reading.{Reading}
 use Rattle.site.specs.Line.{lineAt, headerAt}
-use Rattle.site.specs.Draft.{blankDraft, noughts, unmarked, takeLine}
+use Rattle.site.specs.Draft.{blankDraft, unmarked, takeLine}
 
 -- "A sheet is at most 49,152 bytes."
 abbrev pub limit : ℕ
@@ -107,7 +107,7 @@ readLines d n (line ∷ lines) = onTaken (takeLine d line) n (readLines (takeLin
 
 -- "A refused site sheet gives no new record.": the blank record has no people, so that it isn't sound
 abbrev pub blankRecord : Record
-blankRecord = freshRecord 0 0 0 (noughts 64) (noughts 64) (noughts 32) (unmarked 2048)
+blankRecord = freshRecord 0 0 0 (zeros 64) (zeros 64) (zeros 32) (unmarked 2048)
 
 abbrev pub refusedSite : Verdict → SiteRead
 refusedSite verdict = record { verdict = verdict; «record» = blankRecord }

@@ -1,5 +1,5 @@
 use borrow.Author.Needs.{needs}
-use borrow.Author.Tests.{eq-eqb, ne-eqb}
+use borrow.Author.Tests.{ne-eqb}
 use Rattle.sheet.specs.Cut.{bareMove}
 use Rattle.sheet.proofs.cut.advance_bare.Statement.{statement}
 use Rattle.sheet.proofs.cut.advance_bare.Tie as tie

@@ -1,6 +1,7 @@
 -- `site::read::refused` meets its contract.
 -- Assumes nothing.
-use Rattle.site.specs.Draft.{noughts, unmarked}
+use Rattle.site.specs.Draft.{unmarked}
+use Rattle.record.specs.Doors.{zeros}
 use borrow.Author.Needs.{needs}
 use Rattle.site.proofs.read.refused.Statement.{statement}
 use Rattle.site.proofs.read.refused.Tie as tie
@@ -9,7 +10,7 @@ fresh-requires : tie.Need-fresh-requires
 fresh-requires c κs = search needs
 
 returns : tie.Need-returns
-unfolding noughts unmarked
+unfolding zeros unmarked
 returns c = rw (c .fresh .ensures)
 
 pub refused-spec : {M : Type 1} → statement M
