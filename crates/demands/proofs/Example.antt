@@ -44,7 +44,7 @@ recorded-of-01 = refl
 -- ---- the two orders
 
 -- the fresh record of 01's site
-abbrev site-of-01 : Record
+abbrev pub site-of-01 : Record
 site-of-01 =
     freshRecord 2 3 4 (0 ∷ 1 ∷ 2 ∷ 1 ∷ replicate 60 0) (1 ∷ 2 ∷ 1 ∷ 0 ∷ replicate 60 0) (0 ∷ 0 ∷ 1 ∷ replicate 29 0)
     (set (set (set (replicate 2048 false) 1 true) 2 true) 33 true)

@@ -1,0 +1,112 @@
+-- The twelve cases of paper 01, computed; what they say is in `specs/Cases.antt`. The sheets are read from their bytes. The
+-- steps are computed without the test for 14, which every record of a run passes. Assumes nothing.
+use Prim.Native.Nat.{ℕ}
+use mathlib.Core.Path.{_≡_, refl, ap, subst, _∙_}
+use mathlib.Core.Bool.{true}
+use mathlib.Core.List.{List, [], _∷_}
+use lib.ListN.{getD}
+use Rattle.rules.specs.Below.{orAt, leastBelow, withLocation, locationOf, leastPair, someBelow}
+use Rattle.rules.specs.Tables.{orElse, andAlso, mayBe}
+use Rattle.rules.specs.Tests.{lacksExit, firstNoExit, strays, firstStray, joins, lacksDoor, firstNoDoor, lacksRight, firstNoRight, letsIn, shutOut, firstShutOut}
+use Rattle.rules.specs.Way.{unlessOutside, wayOut, unvisited, wayOf, ifRoom, told, written}
+use Rattle.record.specs.declared.record.Record.{Record}
+use Rattle.record.specs.declared.steps.Step.{Step}
+use Rattle.record.specs.declared.table.Kind.the-variants.{Decide, Green, Walk}
+use Rattle.record.specs.Phase.{grants, green, expired}
+use Rattle.record.specs.Doors.{Shaped, zeros}
+use Rattle.record.specs.Kinds.{allows}
+use Rattle.record.specs.Grants.{grantsTo, grantOf, hasGrant}
+use Rattle.record.specs.Sound.{Sound}
+use Rattle.record.specs.Steps.{reasonFor, effect, act, exist, soundStep}
+use Rattle.record.specs.SoundTest.{soundB}
+use Rattle.record.specs.Questions.{wayAnswerOf, wayWritten}
+use Rattle.record.specs.declared.questions.WayAnswer.the-variants.{Length}
+use Rattle.record.specs.Run.{Row, lastOf}
+use Rattle.record.proofs.Laws.{sound-steps, sound-stays, shaped-stays, run-sound, run-shaped}
+use Rattle.record.proofs.Tells.{sound-tells}
+use Rattle.sheet.specs.Cut.{bareMove, shutMove, moveOf, endOf, fieldFrom, pushed, rowFrom, cutRow}
+use Rattle.sheet.specs.Rows.{readRows, rowsFrom}
+use Rattle.sheet.specs.Say.{valueFrom, digitsFrom, needlessZero, numberOf, contentAt, sameBytes, isWord, numberAt}
+use Rattle.site.specs.declared.read.Verdict.the-variants.{Accepted, NoExit, Stray, NoDoor, NoRight, ShutOut}
+use Rattle.site.specs.Draft.{unmarked, siteFits, takeSite, doorFits, takeDoor, exitFits, takeExit, rightFits, takeRight, takeLine}
+use Rattle.site.specs.Line.{wordOf, lineAt, headerAt}
+use Rattle.site.specs.Site.{linesIn, readLines, judged, settled, afterHeader, siteOf}
+use Rattle.demands.specs.Serving.{stepAt, ticked}
+use Rattle.demands.specs.Served.{Fresh}
+use Rattle.demands.specs.Cases.{siteSheet, withoutExit, exitsInACircle, withoutDoor, withoutRightOf0, withoutRightOf1, freshSite, reasonAt, phaseAt, cardAt, goesThrough, greenFor, TwelveCases}
+use Rattle.demands.proofs.Example.{site-of-01}
+use Rattle.demands.proofs.Accepted.{accepted-fresh}
+
+-- what the six sheets are told, and the record of the first
+sheets : (siteOf siteSheet .verdict ≡ Accepted)
+    × (siteOf withoutExit .verdict ≡ NoExit 2)
+    × (siteOf exitsInACircle .verdict ≡ Stray 1)
+    × (siteOf withoutDoor .verdict ≡ NoDoor 2)
+    × (siteOf withoutRightOf0 .verdict ≡ NoRight 0 2)
+    × (siteOf withoutRightOf1 .verdict ≡ ShutOut 1)
+    × (freshSite ≡ site-of-01)
+unfolding bareMove shutMove moveOf endOf fieldFrom pushed rowFrom cutRow readRows rowsFrom valueFrom digitsFrom needlessZero numberOf contentAt sameBytes isWord numberAt orAt leastBelow withLocation locationOf leastPair someBelow orElse andAlso mayBe lacksExit firstNoExit strays firstStray joins lacksDoor firstNoDoor lacksRight firstNoRight letsIn shutOut firstShutOut unlessOutside wayOut unvisited wayOf unmarked siteFits takeSite doorFits takeDoor exitFits takeExit rightFits takeRight takeLine wordOf lineAt headerAt linesIn readLines judged settled afterHeader siteOf zeros
+sheets = (refl, refl, refl, refl, refl, refl, refl)
+
+fresh : Fresh freshSite
+fresh = accepted-fresh siteSheet (sheets .0)
+
+-- ---- the steps, without the test for 14
+
+soundLast : Record → List Row → Record
+soundLast r [] = r
+soundLast r (row ∷ rows) = soundLast (soundStep r (row .kind) (row .at) (row .person) .next) rows
+
+sound-last : (rows : List Row) (r : Record) → Shaped r → Sound r → lastOf r rows ≡ soundLast r rows
+unfolding lastOf soundLast
+sound-last [] r sh s = refl
+sound-last (row ∷ rows) r sh s =
+    sound-last rows _ (shaped-stays r (row .kind) (row .at) (row .person) sh) (sound-stays r (row .kind) (row .at) (row .person) sh s)
+    ∙ ap (λ (x : Step). soundLast (x .next) rows) (sound-steps r (row .kind) (row .at) (row .person) sh s)
+
+last-here : (rows : List Row) → lastOf freshSite rows ≡ soundLast site-of-01 rows
+last-here rows = sound-last rows freshSite (fresh .shaped) (fresh .sound) ∙ ap (λ (x : Record). soundLast x rows) (sheets .6)
+
+reason-here : (d : ℕ) (rows : List Row) → reasonAt d rows ≡ soundStep (soundLast site-of-01 rows) Decide d 0 .reason
+reason-here d rows =
+    ap (λ (x : Step). x .reason)
+    (sound-steps (lastOf freshSite rows) Decide d 0 (run-shaped freshSite rows (fresh .shaped)) (run-sound freshSite rows (fresh .shaped) (fresh .sound)))
+    ∙ ap (λ (x : Record). soundStep x Decide d 0 .reason) (last-here rows)
+
+phase-here : (d : ℕ) (rows : List Row) → phaseAt d rows ≡ getD (soundLast site-of-01 rows .phase) d 0
+phase-here d rows = ap (λ (x : Record). getD (x .phase) d 0) (last-here rows)
+
+steps : (reasonAt 1 (cardAt 0 0 ∷ stepAt Decide 0 ∷ stepAt Green 0 ∷ stepAt Walk 0 ∷ cardAt 1 0 ∷ []) ≡ 1)
+    × (reasonAt 1 (goesThrough 0 1 (cardAt 1 1 ∷ [])) ≡ 2)
+    × (reasonAt 3 (goesThrough 0 0 (cardAt 1 0 ∷ stepAt Decide 1 ∷ cardAt 3 0 ∷ [])) ≡ 3)
+    × (phaseAt 0 (greenFor 299) ≡ green)
+    × (phaseAt 0 (greenFor 300) ≡ expired)
+unfolding soundLast soundStep reasonFor effect act exist allows hasGrant grantOf leastBelow orAt grantsTo grants mayBe andAlso orElse zeros ticked
+steps = (reason-here 1 _, reason-here 1 _, reason-here 3 _, phase-here 0 _, phase-here 0 _)
+
+-- ---- the question
+
+tested : soundB site-of-01 ≡ true
+tested = subst (λ (x : Record). soundB x ≡ true) (sheets .6) (sound-tells freshSite (fresh .shaped) .back (fresh .sound))
+
+way : (wayAnswerOf site-of-01 2 (9 ∷ 9 ∷ 9 ∷ []) ≡ Length 2) × (wayWritten site-of-01 2 (9 ∷ 9 ∷ 9 ∷ []) ≡ 1 ∷ 0 ∷ 9 ∷ [])
+unfolding wayAnswerOf wayWritten told written ifRoom wayOf wayOut unlessOutside unvisited
+way = (rw (tested), rw (tested))
+
+pub twelve-cases : TwelveCases
+twelve-cases =
+    record {
+      case-1 = sheets .0;
+      case-2 = sheets .1;
+      case-3 = sheets .2;
+      case-4 = sheets .3;
+      case-5 = sheets .4;
+      case-6 = sheets .5;
+      case-7 = steps .0;
+      case-8 = steps .1;
+      case-9 = steps .2;
+      case-10 = steps .3;
+      case-11 = steps .4;
+      case-12-length = ap (λ (x : Record). wayAnswerOf x 2 (9 ∷ 9 ∷ 9 ∷ [])) (sheets .6) ∙ way .0;
+      case-12 = ap (λ (x : Record). wayWritten x 2 (9 ∷ 9 ∷ 9 ∷ [])) (sheets .6) ∙ way .1;
+    }

@@ -1,0 +1,116 @@
+-- The twelve cases of paper 01 ("Twelve cases to prove"), from the sheets' own bytes, and through the steps and the questions.
+use Prim.Native.Nat.{ℕ, _+_}
+use mathlib.Core.Path.{_≡_}
+use mathlib.Core.List.{List, [], _∷_, _++_}
+use lib.ListN.{getD}
+use Rattle.record.specs.declared.record.Record.{Record}
+use Rattle.record.specs.declared.table.Kind.the-variants.{Card, Decide, Green, Walk, Passed, Ack}
+use Rattle.record.specs.declared.questions.WayAnswer.the-variants.{Length}
+use Rattle.record.specs.Phase.{green, expired}
+use Rattle.record.specs.Run.{Row, rowOf, lastOf}
+use Rattle.record.specs.Questions.{wayAnswerOf, wayWritten}
+use Rattle.site.specs.declared.read.Verdict.the-variants.{Accepted, NoExit, Stray, NoDoor, NoRight, ShutOut}
+use Rattle.site.specs.Line.{siteWord, doorWord, exitWord, rightWord, kindWord, aWord, bWord}
+use Rattle.site.specs.Site.{siteOf}
+use Rattle.demands.specs.Serving.{stepAt, ticked}
+
+-- a row in bytes: three fields with commas (44) between, and CRLF (13, 10)
+abbrev pub rowOfBytes : List ℕ → List ℕ → List ℕ → List ℕ
+rowOfBytes a b c = a ++ (44 ∷ (b ++ (44 ∷ (c ++ (13 ∷ 10 ∷ [])))))
+
+-- a digit in bytes: 48 is `0`
+abbrev pub digit : ℕ → List ℕ
+digit n = (48 + n) ∷ []
+
+abbrev pub line : List ℕ → ℕ → ℕ → List ℕ → List ℕ
+line word a b more = rowOfBytes word (digit a) (digit b) ++ more
+
+-- `kind,a,b` and `site,2,3`
+abbrev pub top : List ℕ → List ℕ
+top more = rowOfBytes kindWord aWord bWord ++ line siteWord 2 3 more
+
+-- "site.csv rows after the header: `site,2,3` `door,0,1` `door,1,2` `door,2,1` `door,1,0` `exit,1,0` `exit,2,1` `right,0,1`
+-- `right,0,2` `right,1,1`."
+abbrev pub fourDoors : List ℕ → List ℕ
+fourDoors more = line doorWord 0 1 (line doorWord 1 2 (line doorWord 2 1 (line doorWord 1 0 more)))
+
+abbrev pub twoExits : List ℕ → List ℕ
+twoExits more = line exitWord 1 0 (line exitWord 2 1 more)
+
+abbrev pub threeRights : List ℕ
+threeRights = line rightWord 0 1 (line rightWord 0 2 (line rightWord 1 1 []))
+
+abbrev pub siteSheet : List ℕ
+siteSheet = top (fourDoors (twoExits threeRights))
+
+-- "without `exit,2,1`"
+abbrev pub withoutExit : List ℕ
+withoutExit = top (fourDoors (line exitWord 1 0 threeRights))
+
+-- "with exits 1 to 2 and 2 to 1"
+abbrev pub exitsInACircle : List ℕ
+exitsInACircle = top (fourDoors (line exitWord 1 2 (line exitWord 2 1 threeRights)))
+
+-- "without `door,2,1`"
+abbrev pub withoutDoor : List ℕ
+withoutDoor = top (line doorWord 0 1 (line doorWord 1 2 (line doorWord 1 0 (twoExits threeRights))))
+
+-- "without `right,0,1`"
+abbrev pub withoutRightOf0 : List ℕ
+withoutRightOf0 = top (fourDoors (twoExits (line rightWord 0 2 (line rightWord 1 1 []))))
+
+-- "without `right,1,1`"
+abbrev pub withoutRightOf1 : List ℕ
+withoutRightOf1 = top (fourDoors (twoExits (line rightWord 0 1 (line rightWord 0 2 []))))
+
+-- "On that site, from fresh unless said"
+abbrev pub freshSite : Record
+freshSite = siteOf siteSheet .«record»
+
+-- the reason that `decide` tells at a door after some steps
+abbrev pub reasonAt : ℕ → List Row → ℕ
+reasonAt d rows = rowOf (lastOf freshSite rows) (stepAt Decide d) .reason
+
+-- the phase of a door after some steps
+abbrev pub phaseAt : ℕ → List Row → ℕ
+phaseAt d rows = getD (lastOf freshSite rows .phase) d 0
+
+-- a person shows a card at a door
+abbrev pub cardAt : ℕ → ℕ → Row
+cardAt d p = record { kind = Card; at = d; person = p }
+
+-- a person is granted a door and goes through
+abbrev pub goesThrough : ℕ → ℕ → List Row → List Row
+goesThrough d p more =
+    cardAt d p ∷ stepAt Decide d ∷ stepAt Green d ∷ stepAt Walk d ∷ stepAt Passed d ∷ stepAt Ack d ∷ more
+
+-- door 0 is green for person 0 and gets n ticks
+abbrev pub greenFor : ℕ → List Row
+greenFor n = cardAt 0 0 ∷ stepAt Decide 0 ∷ stepAt Green 0 ∷ ticked n 0 []
+
+pub record TwelveCases : Type 0 where
+  -- "(1) it is accepted"
+  pub case-1 : siteOf siteSheet .verdict ≡ Accepted
+  -- "(2) without `exit,2,1`: 6 at 2"
+  pub case-2 : siteOf withoutExit .verdict ≡ NoExit 2
+  -- "(3) with exits 1 to 2 and 2 to 1: 7 at 1"
+  pub case-3 : siteOf exitsInACircle .verdict ≡ Stray 1
+  -- "(4) without `door,2,1`: 8 at 2"
+  pub case-4 : siteOf withoutDoor .verdict ≡ NoDoor 2
+  -- "(5) without `right,0,1`: 9 at person 0, location 2"
+  pub case-5 : siteOf withoutRightOf0 .verdict ≡ NoRight 0 2
+  -- "(6) without `right,1,1`: 10 at person 1"
+  pub case-6 : siteOf withoutRightOf1 .verdict ≡ ShutOut 1
+  -- "(7) row 6 above has reason 1"
+  pub case-7 : reasonAt 1 (cardAt 0 0 ∷ stepAt Decide 0 ∷ stepAt Green 0 ∷ stepAt Walk 0 ∷ cardAt 1 0 ∷ []) ≡ 1
+  -- "(8) person 1 in location 1, at door 1: reason 2"
+  pub case-8 : reasonAt 1 (goesThrough 0 1 (cardAt 1 1 ∷ [])) ≡ 2
+  -- "(9) person 0 in location 1, granted door 1, at door 3: reason 3"
+  pub case-9 : reasonAt 3 (goesThrough 0 0 (cardAt 1 0 ∷ stepAt Decide 1 ∷ cardAt 3 0 ∷ [])) ≡ 3
+  -- "(10) 299 ticks after `green`: still 3"
+  pub case-10 : phaseAt 0 (greenFor 299) ≡ green
+  -- "(11) 300 ticks: 5"
+  pub case-11 : phaseAt 0 (greenFor 300) ≡ expired
+  -- "(12) way out of 2 is 1, 0"
+  pub case-12-length : wayAnswerOf freshSite 2 (9 ∷ 9 ∷ 9 ∷ []) ≡ Length 2
+  pub case-12 : wayWritten freshSite 2 (9 ∷ 9 ∷ 9 ∷ []) ≡ 1 ∷ 0 ∷ 9 ∷ []
