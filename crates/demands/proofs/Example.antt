@@ -1,43 +1,22 @@
 -- What the run that 01 prints records ("Program and one whole run"), from its steps and its printed answers. The card at door 0
 -- was taken first and its passage recorded last, so here the order of cards is another than that of what was recorded; only in
 -- the latter does the card at door 1 get its own reason again. Assumes nothing.
-use Prim.Native.Nat.{ℕ}
 use mathlib.Core.Path.{_≡_, refl}
 use mathlib.Core.Bool.{true, false}
-use mathlib.Core.List.{List, [], _∷_}
+use mathlib.Core.List.{[], _∷_}
 use lib.ListN.{replicate, set}
 use Rattle.rules.specs.Tables.{mayBe, orElse, andAlso}
 use Rattle.rules.specs.Below.{leastBelow, orAt}
 use Rattle.record.specs.declared.record.Record.{Record}
-use Rattle.record.specs.declared.table.Kind.{Kind}
-use Rattle.record.specs.declared.table.Kind.the-variants.{Card, Decide, Green, Red, Walk, Passed}
 use Rattle.record.specs.Phase.{read, grants}
 use Rattle.record.specs.Doors.{zeros, freshRecord, door, putDoor, putAt}
 use Rattle.record.specs.Grants.{grantsTo, grantOf, hasGrant}
 use Rattle.record.specs.Steps.{reasonFor}
-use Rattle.demands.specs.Serving.{Line, Granted, Denied, noCards, shownAfter, cardAfter, remember, Refusal, Passage, entry, entriesBy, entriesOf, recorded}
-
--- a step of the steps sheet, and what the panel prints of it
-abbrev printed : Kind → ℕ → ℕ → ℕ → ℕ → ℕ → Line
-printed kind d person answer phase reason =
-    record { row = record { kind = kind; at = d; person = person }; answer = answer; phase = phase; reason = reason }
-
-abbrev run-of-01 : List Line
-run-of-01 =
-    printed Card 0 0 0 1 0 ∷
-    printed Decide 0 0 0 2 0 ∷
-    printed Green 0 0 0 3 0 ∷
-    printed Walk 0 0 0 4 0 ∷
-    printed Card 1 0 0 1 0 ∷
-    printed Decide 1 0 0 6 1 ∷
-    printed Passed 0 0 0 9 0 ∷
-    printed Red 1 0 0 7 0 ∷
-    printed Decide 0 0 12 9 0 ∷
-    printed Card 9 0 11 0 0 ∷
-    []
+use Rattle.demands.specs.Serving.{Granted, Denied, noCards, shownAfter, cardAfter, remember, Refusal, Passage, entry, entriesBy, entriesOf, recorded}
+use Rattle.demands.specs.WholeRun.{runOf01}
 
 -- a refusal at door 1 for reason 1, then a passage at door 0
-pub recorded-of-01 : recorded noCards run-of-01 ≡ entry 1 0 (Denied 1) Refusal ∷ entry 0 0 Granted Passage ∷ []
+pub recorded-of-01 : recorded noCards runOf01 ≡ entry 1 0 (Denied 1) Refusal ∷ entry 0 0 Granted Passage ∷ []
 unfolding recorded entriesOf entriesBy remember cardAfter shownAfter
 recorded-of-01 = refl
 

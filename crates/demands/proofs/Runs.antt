@@ -70,7 +70,7 @@ all-decide (more {es} s on) = then (s .decides) (subst (λ (y : Record). Decides
 -- ---- one step of the real run
 
 -- the line of a step and what it handed back
-abbrev lineOf : Row → Step → Line
+abbrev pub lineOf : Row → Step → Line
 lineOf row s = record { row = row; answer = answerTold s; phase = phaseTold s; reason = reasonTold s }
 
 act-line : (r : Record) (d : ℕ) (row : Row) (x : Does) → lineOf row (act r d x) ≡ doneLine row (doorOf r d) x

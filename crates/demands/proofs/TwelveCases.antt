@@ -1,5 +1,6 @@
 -- The twelve cases of paper 01, computed; what they say is in `specs/Cases.antt`. The sheets are read from their bytes. The
--- steps are computed without the test for 14, which every record of a run passes. Assumes nothing.
+-- steps are computed without the test for 14, which every record of a run passes; and so is the whole run that 01 prints
+-- (`specs/WholeRun.antt`). Assumes nothing.
 use Prim.Native.Nat.{ℕ}
 use mathlib.Core.Path.{_≡_, refl, ap, subst, _∙_}
 use mathlib.Core.Bool.{true}
@@ -21,7 +22,7 @@ use Rattle.record.specs.Steps.{reasonFor, effect, act, exist, soundStep}
 use Rattle.record.specs.SoundTest.{soundB}
 use Rattle.record.specs.Questions.{wayAnswerOf, wayWritten}
 use Rattle.record.specs.declared.questions.WayAnswer.the-variants.{Length}
-use Rattle.record.specs.Run.{Row, lastOf}
+use Rattle.record.specs.Run.{Row, rowOf, lastOf, toldOf}
 use Rattle.record.proofs.Laws.{sound-steps, sound-stays, shaped-stays, run-sound, run-shaped}
 use Rattle.record.proofs.Tells.{sound-tells}
 use Rattle.sheet.specs.Cut.{bareMove, shutMove, moveOf, endOf, fieldFrom, pushed, rowFrom, cutRow}
@@ -31,9 +32,11 @@ use Rattle.site.specs.declared.read.Verdict.the-variants.{Accepted, NoExit, Str
 use Rattle.site.specs.Draft.{unmarked, siteFits, takeSite, doorFits, takeDoor, exitFits, takeExit, rightFits, takeRight, takeLine}
 use Rattle.site.specs.Line.{wordOf, lineAt, headerAt}
 use Rattle.site.specs.Site.{linesIn, readLines, judged, settled, afterHeader, siteOf}
-use Rattle.demands.specs.Serving.{stepAt, ticked}
+use Rattle.demands.specs.Serving.{Line, linesOf, heardOf, stepAt, ticked}
 use Rattle.demands.specs.Served.{Fresh}
 use Rattle.demands.specs.Cases.{siteSheet, withoutExit, exitsInACircle, withoutDoor, withoutRightOf0, withoutRightOf1, freshSite, reasonAt, phaseAt, cardAt, goesThrough, greenFor, TwelveCases}
+use Rattle.demands.specs.WholeRun.{runOf01, stepsIn}
+use Rattle.demands.proofs.Runs.{lineOf}
 use Rattle.demands.proofs.Example.{site-of-01}
 use Rattle.demands.proofs.Accepted.{accepted-fresh}
 
@@ -83,6 +86,32 @@ steps : (reasonAt 1 (cardAt 0 0 ∷ stepAt Decide 0 ∷ stepAt Green 0 ∷ stepA
     × (phaseAt 0 (greenFor 300) ≡ expired)
 unfolding soundLast soundStep reasonFor effect act exist allows hasGrant grantOf leastBelow orAt grantsTo grants mayBe andAlso orElse zeros ticked
 steps = (reason-here 1 _, reason-here 1 _, reason-here 3 _, phase-here 0 _, phase-here 0 _)
+
+-- ---- the whole run
+
+-- what is heard of each step
+soundHeard : Record → List Row → List Line
+soundHeard r [] = []
+soundHeard r (row ∷ rows) =
+    let s = soundStep r (row .kind) (row .at) (row .person) in
+    lineOf row s ∷ soundHeard (s .next) rows
+
+sound-heard : (rows : List Row) (r : Record) → Shaped r → Sound r → heardOf r rows ≡ soundHeard r rows
+unfolding heardOf linesOf toldOf soundHeard
+sound-heard [] r sh s = refl
+sound-heard (row ∷ rows) r sh s =
+    ap (λ (l : List Line). lineOf row (rowOf r row) ∷ l)
+    (sound-heard rows _ (shaped-stays r (row .kind) (row .at) (row .person) sh) (sound-stays r (row .kind) (row .at) (row .person) sh s))
+    ∙ ap (λ (x : Step). lineOf row x ∷ soundHeard (x .next) rows) (sound-steps r (row .kind) (row .at) (row .person) sh s)
+
+pub whole-run : heardOf freshSite (stepsIn runOf01) ≡ runOf01
+unfolding soundHeard stepsIn soundStep reasonFor effect act exist allows hasGrant grantOf leastBelow orAt grantsTo grants mayBe andAlso orElse zeros
+whole-run = sound-heard (stepsIn runOf01) freshSite (fresh .shaped) (fresh .sound) ∙ ap (λ (x : Record). soundHeard x (stepsIn runOf01)) (sheets .6)
+
+pub whole-run-places : (getD (lastOf freshSite (stepsIn runOf01) .place) 0 0 ≡ 1) × (getD (lastOf freshSite (stepsIn runOf01) .place) 1 0 ≡ 0)
+unfolding soundLast stepsIn soundStep reasonFor effect act exist allows hasGrant grantOf leastBelow orAt grantsTo grants mayBe andAlso orElse zeros
+whole-run-places =
+    (ap (λ (x : Record). getD (x .place) 0 0) (last-here (stepsIn runOf01)), ap (λ (x : Record). getD (x .place) 1 0) (last-here (stepsIn runOf01)))
 
 -- ---- the question
 

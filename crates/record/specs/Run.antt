@@ -10,7 +10,7 @@ use Rattle.record.specs.declared.record.Record.{Record}
 use Rattle.record.specs.declared.table.Kind.{Kind}
 use Rattle.record.specs.declared.steps.Step.{Step}
 use Rattle.record.specs.declared.steps.Answer.the-variants.{Done, TooShort, Unsound}
-use Rattle.record.specs.declared.run.Ran.{Ran}
+use Rattle.record.specs.declared.series.Ran.{Ran}
 use Rattle.record.specs.Answers.{numberOf}
 use Rattle.record.specs.Kinds.{kindOf}
 use Rattle.record.specs.SoundTest.{soundB}

@@ -1,25 +1,25 @@
 // The record of people and doors: what it holds (`record`, `phase`), when it is sound (`sound`), the
-// ten steps (`table`, `steps`), the run of a list of steps (`run`) and the three questions
+// ten steps (`table`, `steps`), the run of a list of steps (`series`) and the three questions
 // (`questions`). `lists` and `grants` read the lists that are lent inside.
 mod grants;
 mod lists;
 pub mod phase;
 pub mod questions;
 pub mod record;
-pub mod run;
+pub mod series;
 mod sound;
 pub mod steps;
 pub mod table;
 
-pub use phase::Phase;
-pub use phase::Span;
-pub use questions::GrantAnswer;
-pub use questions::PlaceAnswer;
-pub use questions::WayAnswer;
-pub use record::Door;
-pub use record::Record;
-pub use run::Ran;
-pub use steps::Answer;
-pub use steps::Reason;
-pub use steps::Step;
-pub use table::Kind;
+pub use crate::phase::Phase;
+pub use crate::phase::Span;
+pub use crate::questions::GrantAnswer;
+pub use crate::questions::PlaceAnswer;
+pub use crate::questions::WayAnswer;
+pub use crate::record::Door;
+pub use crate::record::Record;
+pub use crate::series::Ran;
+pub use crate::steps::Answer;
+pub use crate::steps::Reason;
+pub use crate::steps::Step;
+pub use crate::table::Kind;

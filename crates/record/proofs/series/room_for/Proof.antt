@@ -1,8 +1,8 @@
 -- `room_for` meets its contract: the tests of `roomFor`, one after the other. Assumes nothing.
 use Rattle.record.specs.Run.{roomFor}
 use Rattle.record.proofs.Cases.{chain}
-use Rattle.record.proofs.run.room_for.Statement.{statement}
-use Rattle.record.proofs.run.room_for.Tie as tie
+use Rattle.record.proofs.series.room_for.Statement.{statement}
+use Rattle.record.proofs.series.room_for.Tie as tie
 
 returns : tie.Need-returns
 unfolding roomFor

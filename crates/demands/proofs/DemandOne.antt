@@ -1,0 +1,581 @@
+-- The parts of demand 1, crate by crate; what they say is in `specs/DemandOne.antt`. Assumes nothing.
+use Prim.Native.Nat.{ℕ, zero, suc, _+_, _-_, _≤_, _<_}
+use mathlib.Core.Path.{_≡_, refl, sym, ap, _∙_}
+use mathlib.Core.Bool.{Bool, true, false, not, cond, false≢true}
+use mathlib.Core.List.{List, [], _∷_}
+use mathlib.Core.Logic.{_⊎_, inl, inr, ⊎-elim}
+use native.Mathlib.Nat.{add-sub-of-le}
+use native.Mathlib.Omega.{arith}
+use borrow.Author.Tests.{ne-eqb, le-ltb, ltb-true, ltb-false, lt-ltb, le-leb, lt-leb, leb-true}
+use lib.ListN.{length, getD, drop, length-drop, length-append}
+use lib.Dec.{eqb, ltb, leb}
+use Rattle.sheet.specs.declared.cut.Cell.{Cell}
+use Rattle.sheet.specs.declared.cut.Mode.the-variants.{Fresh}
+use Rattle.sheet.specs.declared.cut.FieldCut.{FieldCut}
+use Rattle.sheet.specs.declared.cut.FieldCut.the-variants.{Next, Last, Fault}
+use Rattle.sheet.specs.declared.cut.RowCut.{RowCut}
+use Rattle.sheet.specs.declared.cut.RowCut.the-variants.{Cut, NoRow, Broken}
+use Rattle.sheet.specs.declared.say.Number.the-variants.{Is, None}
+use Rattle.sheet.specs.Grammar.{Field, bare, quoted, fieldText, comma, cr, lf}
+use Rattle.sheet.specs.Cut.{emptyAt, cutField, cutRow}
+use Rattle.sheet.specs.Where.{cellOf, CellHolds}
+use Rattle.sheet.specs.Rows.{onRow, readRows, rowsFrom, countFrom, countRows}
+use Rattle.sheet.specs.Say.{valueFrom, ProperNumber, contentAt, sameBytes, isWord, numberAt}
+use Rattle.sheet.specs.Say as say
+use Rattle.sheet.proofs.Steps.{FieldIn, field-in, cut-within}
+use Rattle.sheet.proofs.Found.{FieldFound, with-crlf, with-sheet}
+use Rattle.sheet.proofs.Reading.{cut-behind, cut-there}
+use Rattle.sheet.proofs.Saying.{same-true, read-proper}
+use Rattle.sheet.proofs.Theorems.{found-is-row, found-is-field, field-before-comma, field-before-crlf, field-before-end}
+use Rattle.rules.specs.Tables.{orElse, andAlso, mayBe, mostLocations}
+use Rattle.rules.specs.Below.{Tells}
+use Rattle.rules.specs.declared.Found.{Found}
+use Rattle.rules.specs.declared.Found.the-variants.{At, Nothing}
+use Rattle.rules.specs.declared.RightFound.{RightFound}
+use Rattle.rules.specs.declared.RightFound.the-variants as pair
+use Rattle.rules.specs.Tests.{lacksExit, firstNoExit, strays, firstStray, lacksDoor, firstNoDoor, firstNoRight, shutOut, firstShutOut, countsFit, inRange, lawfulB}
+use Rattle.rules.specs.Way.{wayOf, ifRoom, told, written}
+use Rattle.rules.proofs.Laws.{and-left, and-right, and-both, clash, least-at, may-be-outside, tell-le, tell-and, tell-as}
+use Rattle.rules.proofs.Answers.{in-range-tells, rule-9, lawful-tells}
+use Rattle.rules.proofs.WayOut.{way-at-most-31}
+use Rattle.record.specs.declared.record.Record.{Record}
+use Rattle.record.specs.declared.table.Kind.{Kind}
+use Rattle.record.specs.declared.table.Kind.the-variants.{Card, Decide, Green, Red, Walk, Tick, Passed, Lapsed, Dark, Ack, Unknown}
+use Rattle.record.specs.declared.record.Door.{Door}
+use Rattle.record.specs.declared.steps.Answer.{Answer}
+use Rattle.record.specs.declared.steps.Answer.the-variants.{Done, NoSuch, NotAllowed, TooShort, Unsound}
+use Rattle.record.specs.Answers.{numberOf}
+use Rattle.record.specs.Phase.{green, denied, red}
+use Rattle.record.specs.Doors.{doorOf, Shaped}
+use Rattle.record.specs.Grants.{grantOf}
+use Rattle.record.specs.Kinds.{kindOf, allows, namesPerson}
+use Rattle.record.specs.SoundTest.{soundB}
+use Rattle.record.specs.Steps.{reasonFor, Does, stays, turns, moves, effect, act, refused, doing, exist, soundStep, stepOf}
+use Rattle.record.specs.Run.{roomFor, roomIn, ranOf, tellingOf}
+use Rattle.record.specs.Questions.{placeOf, grantFound, grantedTo, grantNumber, grantTold, wayAnswerOf, wayWritten}
+use Rattle.record.proofs.Cases.{either}
+use Rattle.record.proofs.Keep.{put-same}
+use Rattle.record.proofs.Entries.{table-allows}
+use Rattle.record.proofs.Fresh.{fresh-sound}
+use Rattle.record.proofs.Tells.{sound-tells}
+use Rattle.record.proofs.Laws.{act-done}
+use Rattle.site.specs.declared.read.Verdict.{Verdict}
+use Rattle.site.specs.declared.read.Verdict.the-variants.{Accepted, TooLong, BadRow, OutOfRange, Twice, NoSite, NoExit, Stray, NoDoor, NoRight, ShutOut}
+use Rattle.site.specs.declared.read.SiteRead.{SiteRead}
+use Rattle.site.specs.declared.read.Reading.{Reading}
+use Rattle.site.specs.declared.Draft.{Draft}
+use Rattle.site.specs.Line.{headerAt}
+use Rattle.site.specs.Site.{limit, soundFault, firstPlace, secondPlace, blankRecord, acceptedSite, unlessFound, unlessPair, judged, settled, afterHeader, siteOf}
+use Rattle.site.specs.Site as site
+use Rattle.site.proofs.Theorems.{given-exactly}
+use Rattle.demands.specs.DemandOne.{Told, OneOf, Within, Lies, FieldTold, RowTold, CountTold, SheetAnswers, WayTells, RulesAnswers}
+use Rattle.demands.specs.DemandOne.{Exists, stepOrder, StepTells, Room, RunTells, PlaceTells, GrantTells, WayOutTells, RecordAnswers, SiteTells, SiteAnswers}
+
+-- ---- crate `sheet`
+
+-- a cell that holds a field lies in the sheet
+held-lies : (s : List ℕ) (cell : Cell) (f : Field) → CellHolds s cell f → Lies s cell
+unfolding cellOf fieldText
+held-lies s cell (bare c) h =
+    let within = h .within in
+    let long : length s - h .at ≡ length c + length (h .behind) = rw (← length-drop (h .at) s, h .there) (length-append c (h .behind)) in
+    rw (h .is) (record { from = omega arith; to = omega arith })
+held-lies s cell (quoted c) h =
+    let within = h .within in
+    let long : length s - h .at ≡ length (fieldText (quoted c)) + length (h .behind) =
+    rw (← length-drop (h .at) s, h .there) (length-append (fieldText (quoted c)) (h .behind)) in
+    let long′ = simp length-append at long in
+    rw (h .is) (record { from = omega arith; to = omega arith })
+
+-- a field that is found is one of the sheet's, and this is its cell
+field-lies : (s : List ℕ) (at : ℕ) → at ≤ length s → (cut : FieldCut) → cutField s at ≡ cut → FieldFound (drop at s) cut → FieldIn cut at (length s)
+    → FieldTold s at cut
+field-lies s at h (Next cell next) e f n =
+    let w = f .is in
+    let c = field-before-comma s at (w .field) (w .written) (f .rest) (w .text-is) in
+    let is : cell ≡ cellOf at (w .field) = cc in
+    (held-lies s cell (w .field) (record { at = at; within = h; behind = comma ∷ f .rest; there = w .text-is; is = is }), record { from = omega arith; to = n .1 })
+field-lies s at h (Last cell next) e (with-crlf rest w) n =
+    let c = field-before-crlf s at (w .field) (w .written) rest (w .text-is) in
+    let is : cell ≡ cellOf at (w .field) = cc in
+    (held-lies s cell (w .field) (record { at = at; within = h; behind = cr ∷ lf ∷ rest; there = w .text-is; is = is }), record { from = n .0; to = n .1 })
+field-lies s at h (Last cell next) e (with-sheet w) n =
+    let c = field-before-end s at (w .field) (w .written) (w .text-is) in
+    let is : cell ≡ cellOf at (w .field) = cc in
+    (held-lies s cell (w .field) (record { at = at; within = h; behind = []; there = w .text-is; is = is }), record { from = n .0; to = n .1 })
+field-lies s at h (Fault byte) e f n = record { from = n .0; to = n .1 }
+
+field-told : (s : List ℕ) (at : ℕ) → at ≤ length s → FieldTold s at (cutField s at)
+unfolding cutField
+field-told s at h =
+    let n : at + length (drop at s) ≡ length s = simp length-drop (add-sub-of-le h) in
+    field-lies s at h (cutField s at) refl (found-is-field s at) (rw n at (field-in (drop at s) at Fresh (emptyAt at)))
+
+-- a row that breaks was there
+row-breaks : (s : List ℕ) (at byte : ℕ) → cutRow s at ≡ Broken byte → Within s at byte
+row-breaks s at byte e = go (ltb at (length s)) refl
+  where
+    go : (q : Bool) → ltb at (length s) ≡ q → Within s at byte
+    go true q = let w = cut-within s at (ltb-true at (length s) q) e in record { from = w .0; to = w .1 }
+    go false q =
+        let h = cut-behind s at (ltb-false at (length s) q) in
+        let z : _≡_ {A = ℕ} 0 1 = cc in
+        absurd (omega arith)
+
+row-told : (s : List ℕ) (at : ℕ) (cut : RowCut) → cutRow s at ≡ cut → RowTold s at cut
+row-told s at (Cut cells next) e =
+    let w = cut-there s at e in
+    let c = found-is-row s at e .holds in
+    (w .0, w .1, held-lies s _ _ (c .first), λ two. held-lies s _ _ (c .second two), λ three. held-lies s _ _ (c .third three))
+row-told s at NoRow e = go (ltb at (length s)) refl
+  where
+    go : (q : Bool) → ltb at (length s) ≡ q → length s ≤ at
+    go true q = absurd (cut-within s at (ltb-true at (length s) q) e)
+    go false q = ltb-false at (length s) q
+row-told s at (Broken byte) e = row-breaks s at byte e
+
+-- each row that is counted takes a byte
+rows-told : (s : List ℕ) (most n at : ℕ) → n ≤ at → at ≤ length s → CountTold s (countFrom n (readRows most s at))
+unfolding readRows countFrom
+rows-told s zero n at few within = omega arith
+rows-told s (suc most) n at few within = go (cutRow s at) refl (rows-told s most (n + 1))
+  where
+    go : (cut : RowCut) → cutRow s at ≡ cut
+        → ((next : ℕ) → n + 1 ≤ next → next ≤ length s → CountTold s (countFrom (n + 1) (readRows most s next)))
+        → CountTold s (countFrom n (onRow cut (λ next. readRows most s next)))
+    go (Cut cells next) e on = let w = cut-there s at e in on next (omega arith) (w .1)
+    go NoRow e on = omega arith
+    go (Broken byte) e on = (omega arith, row-breaks s at byte e .to)
+
+count-told : (s : List ℕ) → CountTold s (countRows s)
+unfolding countRows rowsFrom
+count-told s = rows-told s (suc (length s - 0)) 0 0 (omega arith) (omega arith)
+
+-- three digits make at most 999
+small : (c : List ℕ) (n : ℕ) → ProperNumber c n → n ≤ 999
+unfolding valueFrom
+small [] n p = let v = p .value in omega arith
+small (x ∷ []) n p = let v = p .value in let a = p .digits 0 (omega arith) in omega arith
+small (x ∷ y ∷ []) n p = let v = p .value in let a = p .digits 0 (omega arith) in let b = p .digits 1 (omega arith) in omega arith
+small (x ∷ y ∷ z ∷ []) n p =
+    let v = p .value in
+    let a = p .digits 0 (omega arith) in
+    let b = p .digits 1 (omega arith) in
+    let c = p .digits 2 (omega arith) in
+    omega arith
+small (x ∷ y ∷ z ∷ w ∷ more) n p = let few = p .few in absurd (omega arith)
+
+number-small : (s : List ℕ) (cell : Cell) (n : ℕ) → numberAt s cell ≡ Is n → n ≤ 999
+unfolding numberAt
+number-small s cell n = go (cell .doubled)
+  where
+    go : (b : Bool) → cond b None (say.numberOf (contentAt s cell)) ≡ Is n → n ≤ 999
+    go true e = let z : _≡_ {A = ℕ} 0 1 = cc in absurd (omega arith)
+    go false e = small (contentAt s cell) n (read-proper (contentAt s cell) e)
+
+word-told : (s : List ℕ) (cell : Cell) (word : List ℕ) → isWord s cell word ≡ true → contentAt s cell ≡ word
+unfolding isWord
+word-told s cell word = go (cell .doubled)
+  where
+    go : (b : Bool) → cond b false (sameBytes (contentAt s cell) word) ≡ true → contentAt s cell ≡ word
+    go true e = absurd (false≢true e)
+    go false e = same-true (contentAt s cell) word e
+
+pub of-sheet : SheetAnswers
+of-sheet = record { cut-field = field-told; cut-row = λ s at. row-told s at (cutRow s at) refl; count-rows = count-told; is-word = word-told; number-of = number-small }
+
+-- ---- crate `rules`
+
+-- a way is told and written where the list has room for it, and else neither
+way-tells : (way list : List ℕ) → length way ≤ 31 → WayTells way list
+unfolding told written ifRoom
+way-tells way list most =
+    record {
+      short = λ h. let e = lt-leb (length way) (length list) h in (rw e, rw e);
+      room = λ h. let e = le-leb (length way) (length list) h in (rw e, rw e);
+      most = most;
+    }
+
+-- past the last location no right is read
+past : (right : List Bool) (p l : ℕ) → mostLocations ≤ l → mayBe right p l ≡ false
+unfolding mayBe orElse andAlso
+past right p l h = rw (ne-eqb l 0 (λ e. omega arith), le-ltb l mostLocations h)
+
+pub of-rules : RulesAnswers
+unfolding firstNoExit firstStray firstNoDoor firstShutOut
+of-rules =
+    record {
+      may-be = λ right p l. (may-be-outside right p, past right p l);
+      in-range = in-range-tells;
+      first-no-exit = λ locations given l e. least-at (lacksExit given) locations l e .0;
+      first-stray = λ locations exit l e. least-at (strays locations exit) locations l e .0;
+      first-no-door = λ locations doors origin destination exit l e. least-at (lacksDoor doors origin destination exit) locations l e .0;
+      first-no-right = λ people locations exit right p l e.
+          let at = rule-9 people locations exit right .at-yes p l e in (at .person, at .location .exists);
+      first-shut-out = λ people doors origin destination right p e. least-at (shutOut doors origin destination right) people p e .0;
+      lawful = lawful-tells;
+      way-out = λ locations exit from list. way-tells (wayOf locations exit from) list (way-at-most-31 locations exit from);
+    }
+
+-- ---- crate `record`: a step
+
+-- the test whether door and person exist
+exist-tells : (r : Record) (k : Kind) (d p : ℕ) → Tells (exist r k d p) (Exists r k d p)
+unfolding exist orElse
+exist-tells r k d p =
+    record {
+      yes = λ e.
+          record {
+            a-door = ltb-true d (r .doors) (and-left _ _ e);
+            a-person = λ n. ltb-true p (r .people) (rw n at (and-right (ltb d (r .doors)) _ e));
+          };
+      back = λ x. and-both _ _ (lt-ltb d (r .doors) (x .a-door)) (person (namesPerson k) (x .a-person));
+    }
+  where
+    person : (b : Bool) → (b ≡ true → p < r .people) → orElse (not b) (ltb p (r .people)) ≡ true
+    person true h = lt-ltb p (r .people) (h refl)
+    person false h = refl
+
+-- the phase that a step tells is the door's afterwards
+act-phase : (r : Record) → Shaped r → (d : ℕ) → d < 64 → (x : Does) → act r d x .phase ≡ getD (act r d x .next .phase) d 0
+unfolding act
+act-phase r sh d h stays = refl
+act-phase r sh d h (turns c why) = sym (ap (λ (x : Door). x .phase) (put-same r sh d c h))
+act-phase r sh d h (moves c) = sym (ap (λ (x : Door). x .phase) (put-same r sh d c h))
+
+-- a step that is done tells a reason only where `decide` denies
+abbrev Reasoned : Record → Kind → ℕ → Does → Type 0
+Reasoned r k d x = (act r d x .reason ≡ 0 → ⊥) → (k ≡ Decide) × (act r d x .phase ≡ denied)
+
+act-reason : (r : Record) (k : Kind) (d p why : ℕ) (c : Door) → Reasoned r k d (effect k p why c)
+unfolding act effect
+act-reason r Card d p why c some = absurd (some refl)
+act-reason r Decide d p why c some =
+    either (Reasoned r Decide d) (eqb why 0) (λ _ some. absurd (some refl)) (λ _ _. (refl, refl)) some
+act-reason r Green d p why c some = absurd (some refl)
+act-reason r Red d p why c some = absurd (some refl)
+act-reason r Walk d p why c some = absurd (some refl)
+act-reason r Tick d p why c some =
+    either (Reasoned r Tick d) (eqb (c .phase) green)
+    (λ _. either (Reasoned r Tick d) (ltb 1 (c .count)) (λ _ some. absurd (some refl)) (λ _ some. absurd (some refl)))
+    (λ _.
+    either (Reasoned r Tick d) (eqb (c .phase) red)
+    (λ _. either (Reasoned r Tick d) (ltb 1 (c .count)) (λ _ some. absurd (some refl)) (λ _ some. absurd (some refl)))
+    (λ _ some. absurd (some refl)))
+    some
+act-reason r Passed d p why c some = absurd (some refl)
+act-reason r Lapsed d p why c some = absurd (some refl)
+act-reason r Dark d p why c some = absurd (some refl)
+act-reason r Ack d p why c some = absurd (some refl)
+act-reason r Unknown d p why c some = absurd (some refl)
+
+-- two answers of different numbers
+apart : {X : Type 0} {a b : Answer} → (numberOf a ≡ numberOf b → ⊥) → a ≡ b → X
+apart ne e = absurd (ne (ap numberOf e))
+
+-- no refusal's number is 0
+eleven : _≡_ {A = ℕ} 11 0 → ⊥
+eleven e = omega arith
+
+thirteen : _≡_ {A = ℕ} 13 0 → ⊥
+thirteen e = omega arith
+
+fourteen : _≡_ {A = ℕ} 14 0 → ⊥
+fourteen e = omega arith
+
+module _ (r : Record) (k : Kind) (d p : ℕ) where
+  refused-tells : (a : Answer) (ph : ℕ) → Told (stepOrder r k d p) (numberOf a) → (numberOf a ≡ 0 → ⊥) → (a ≡ NotAllowed → ph ≡ getD (r .phase) d 0)
+      → ((a ≡ NoSuch) ⊎ (a ≡ Unsound) → ph ≡ 0) → StepTells r k d p (refused r a ph)
+  refused-tells a ph number some allowed there =
+      record {
+        number = number;
+        unaltered = λ _. refl;
+        phase-after = λ _. apart some;
+        phase-as-it-was = allowed;
+        phase-untold = there;
+        no-reason = λ _. refl;
+        a-reason = λ reason. absurd (reason refl);
+      }
+
+  done-tells : Told (stepOrder r k d p) 0 → soundB r ≡ true → d < r .doors → StepTells r k d p (act r d (doing r k d p))
+  done-tells number s h =
+      let is = act-done r d (doing r k d p) in
+      record {
+        number = rw is number;
+        unaltered = λ no-way. absurd (no-way is);
+        phase-after = λ sh _.
+            let most = sound-tells r sh .yes s .tables .in-range .doors-to in act-phase r sh d (omega arith) (doing r k d p);
+        phase-as-it-was = λ e. apart (λ z. omega arith) (sym is ∙ e);
+        phase-untold = ⊎-elim (λ e. apart (λ z. omega arith) (sym is ∙ e)) (λ e. apart (λ z. omega arith) (sym is ∙ e));
+        no-reason = λ no-way. absurd (no-way is);
+        a-reason = act-reason r k d p (reasonFor r d (getD (r .holder) d 0)) (doorOf r d);
+      }
+
+  step-tells : StepTells r k d p (stepOf r k d p)
+  unfolding stepOf soundStep
+  step-tells =
+      either (StepTells r k d p) (soundB r)
+      (λ s.
+      either (StepTells r k d p) (exist r k d p)
+      (λ e.
+      let x = exist-tells r k d p .yes e in
+      either (StepTells r k d p) (allows k (getD (r .phase) d 0)) (λ w. done-tells (inr (s, inr (x, inr (w, refl)))) s (x .a-door))
+      (λ w.
+      refused-tells NotAllowed (getD (r .phase) d 0) (inr (s, inr (x, inl ((λ t. clash t w), refl)))) (λ z. omega arith) (λ _. refl)
+      (⊎-elim (apart (λ z. omega arith)) (apart (λ z. omega arith)))))
+      (λ e.
+      refused-tells NoSuch 0 (inr (s, inl ((λ x. clash (exist-tells r k d p .back x) e), refl))) (λ z. omega arith) (apart (λ z. omega arith)) (λ _. refl)))
+      (λ s. refused-tells Unsound 0 (inl ((λ t. clash t s), refl)) (λ z. omega arith) (apart (λ z. omega arith)) (λ _. refl))
+
+-- ---- crate `record`: a run and the questions
+
+room-tells : (steps doors persons answers phases reasons : List ℕ)
+    → Tells (roomIn steps doors persons answers phases reasons) (Room steps doors persons answers phases reasons)
+unfolding roomFor
+room-tells steps doors persons answers phases reasons =
+    tell-as (λ t. record { in-doors = t .0; in-persons = t .1 .0; in-answers = t .1 .1 .0; in-phases = t .1 .1 .1 .0; in-reasons = t .1 .1 .1 .1 })
+    (λ x. (x .in-doors, (x .in-persons, (x .in-answers, (x .in-phases, x .in-reasons)))))
+    (tell-and (tell-le _ _) (tell-and (tell-le _ _) (tell-and (tell-le _ _) (tell-and (tell-le _ _) (tell-le _ _)))))
+
+module _ (r : Record) (steps doors persons answers phases reasons : List ℕ) where
+  run-tells : RunTells r steps doors persons answers phases reasons
+  unfolding ranOf tellingOf andAlso
+  run-tells = go (soundB r) refl (roomIn steps doors persons answers phases reasons) refl
+    where
+      go : (s : Bool) → soundB r ≡ s → (b : Bool) → roomIn steps doors persons answers phases reasons ≡ b → RunTells r steps doors persons answers phases reasons
+      go true s true b =
+          record {
+            number = inr (s, inr (room-tells steps doors persons answers phases reasons .yes b, rw (s, b)));
+            unaltered = λ no-way. absurd (no-way (rw (s, b)));
+            ran = λ _. (rw (s, b), rw (s, b), rw (s, b), rw (s, b));
+          }
+      go true s false b =
+          record {
+            number = inr (s, inl ((λ x. clash (room-tells steps doors persons answers phases reasons .back x) b), rw (s, b)));
+            unaltered = λ _. (rw (s, b), rw (s, b), rw (s, b), rw (s, b));
+            ran = λ e. apart (λ z. omega arith) (rw (s, b) at e);
+          }
+      go false s b _ =
+          record {
+            number = inl ((λ t. clash t s), rw s);
+            unaltered = λ _. (rw s, rw s, rw s, rw s);
+            ran = λ e. apart (λ z. omega arith) (rw s at e);
+          }
+
+-- the questions: 14, then 11
+module _ (r : Record) (p : ℕ) where
+  place-tells : PlaceTells r p
+  unfolding placeOf
+  place-tells = go (soundB r) refl (ltb p (r .people)) refl
+    where
+      go : (s : Bool) → soundB r ≡ s → (b : Bool) → ltb p (r .people) ≡ b → PlaceTells r p
+      go true s true b =
+          record { number = inr (s, inr (ltb-true p (r .people) b, rw (s, b))); location = λ _. rw (s, b); refused = λ some. absurd (some (rw (s, b))) }
+      go true s false b =
+          record {
+            number = inr (s, inl ((λ h. clash (lt-ltb p (r .people) h) b), rw (s, b)));
+            location = λ e. absurd (eleven (rw (s, b) at e));
+            refused = λ _. rw (s, b);
+          }
+      go false s b _ =
+          record { number = inl ((λ t. clash t s), rw s); location = λ e. absurd (fourteen (rw s at e)); refused = λ _. rw s }
+
+  grant-tells : GrantTells r p
+  unfolding grantedTo
+  grant-tells = go (soundB r) refl (ltb p (r .people)) refl
+    where
+      found : (x : Found) → (grantNumber (grantFound x) ≡ 0) × (grantTold (grantFound x) ≡ x)
+      found (At d) = (refl, refl)
+      found Nothing = (refl, refl)
+
+      go : (s : Bool) → soundB r ≡ s → (b : Bool) → ltb p (r .people) ≡ b → GrantTells r p
+      go true s true b =
+          let f = found (grantOf (r .doors) (r .phase) (r .holder) p) in
+          record {
+            number = inr (s, inr (ltb-true p (r .people) b, rw (s, b) (f .0)));
+            a-door = λ _. rw (s, b) (f .1);
+            refused = λ some. absurd (some (rw (s, b) (f .0)));
+          }
+      go true s false b =
+          record {
+            number = inr (s, inl ((λ h. clash (lt-ltb p (r .people) h) b), rw (s, b)));
+            a-door = λ e. absurd (eleven (rw (s, b) at e));
+            refused = λ _. rw (s, b);
+          }
+      go false s b _ =
+          record { number = inl ((λ t. clash t s), rw s); a-door = λ e. absurd (fourteen (rw s at e)); refused = λ _. rw s }
+
+module _ (r : Record) (l : ℕ) (list : List ℕ) where
+  abbrev way : List ℕ
+  way = wayOf (r .locations) (r .exit) l
+
+  way-out-tells : WayOutTells r l list
+  unfolding wayAnswerOf wayWritten told written ifRoom
+  way-out-tells = go (soundB r) refl (ltb l (r .locations)) refl (leb (length way) (length list)) refl
+    where
+      go : (s : Bool) → soundB r ≡ s → (b : Bool) → ltb l (r .locations) ≡ b → (q : Bool) → leb (length way) (length list) ≡ q → WayOutTells r l list
+      go true s true b true q =
+          record {
+            number = inr (s, inr (ltb-true l (r .locations) b, inr (leb-true _ _ q, rw (s, b, q))));
+            a-length = λ _. rw (s, b, q);
+            in-front = λ _. rw (s, b, q);
+            refused = λ some. absurd (some (rw (s, b, q)));
+            unaltered = λ some. absurd (some (rw (s, b, q)));
+          }
+      go true s true b false q =
+          record {
+            number = inr (s, inr (ltb-true l (r .locations) b, inl ((λ h. clash (le-leb _ _ h) q), rw (s, b, q))));
+            a-length = λ e. absurd (thirteen (rw (s, b, q) at e));
+            in-front = λ e. absurd (thirteen (rw (s, b, q) at e));
+            refused = λ _. rw (s, b, q);
+            unaltered = λ _. rw (s, b, q);
+          }
+      go true s false b q _ =
+          record {
+            number = inr (s, inl ((λ h. clash (lt-ltb l (r .locations) h) b), rw (s, b)));
+            a-length = λ e. absurd (eleven (rw (s, b) at e));
+            in-front = λ e. absurd (eleven (rw (s, b) at e));
+            refused = λ _. rw (s, b);
+            unaltered = λ _. rw (s, b);
+          }
+      go false s b _ q _ =
+          record {
+            number = inl ((λ t. clash t s), rw s);
+            a-length = λ e. absurd (fourteen (rw s at e));
+            in-front = λ e. absurd (fourteen (rw s at e));
+            refused = λ _. rw s;
+            unaltered = λ _. rw s;
+          }
+
+a-number : (a : Answer) → OneOf (0 ∷ 11 ∷ 12 ∷ 13 ∷ 14 ∷ []) (numberOf a)
+a-number Done = inl refl
+a-number NoSuch = inr (inl refl)
+a-number NotAllowed = inr (inr (inl refl))
+a-number TooShort = inr (inr (inr (inl refl)))
+a-number Unsound = inr (inr (inr (inr (inl refl))))
+
+no-step : (n : ℕ) → 10 ≤ n → kindOf n ≡ Unknown
+unfolding kindOf
+no-step n h =
+    let other : (k : ℕ) → k < 10 → eqb n k ≡ false = λ k low. ne-eqb n k (λ e. omega arith) in
+    rw (other 0 (omega arith), other 1 (omega arith), other 2 (omega arith), other 3 (omega arith), other 4 (omega arith), other 5 (omega arith), other 6 (omega arith), other 7 (omega arith), other 8 (omega arith), other 9 (omega arith))
+
+pub of-record : RecordAnswers
+of-record =
+    record {
+      answer-number = a-number;
+      is-sound = sound-tells;
+      fresh = fresh-sound;
+      kind-of = no-step;
+      allowed-in = table-allows;
+      step = step-tells;
+      step-numbered = λ r n d p. step-tells r (kindOf n) d p;
+      card = λ r d p. step-tells r Card d p;
+      decide = λ r d. step-tells r Decide d 0;
+      green = λ r d. step-tells r Green d 0;
+      red = λ r d. step-tells r Red d 0;
+      walk = λ r d. step-tells r Walk d 0;
+      tick = λ r d. step-tells r Tick d 0;
+      passed = λ r d. step-tells r Passed d 0;
+      lapsed = λ r d. step-tells r Lapsed d 0;
+      dark = λ r d. step-tells r Dark d 0;
+      ack = λ r d. step-tells r Ack d 0;
+      run = run-tells;
+      place-of = place-tells;
+      granted-to = grant-tells;
+      way-out = way-out-tells;
+    }
+
+-- ---- crate `site`
+
+number-most : (v : Verdict) → site.numberOf v ≤ 10
+number-most Accepted = omega arith
+number-most TooLong = omega arith
+number-most (BadRow n) = omega arith
+number-most (OutOfRange n) = omega arith
+number-most (Twice n) = omega arith
+number-most NoSite = omega arith
+number-most (NoExit l) = omega arith
+number-most (Stray l) = omega arith
+number-most (NoDoor l) = omega arith
+number-most (NoRight p l) = omega arith
+number-most (ShutOut p) = omega arith
+
+place-told : (v : Verdict) → (site.numberOf v ≤ 1 → firstPlace v ≡ 0) × (site.numberOf v ≡ 5 → firstPlace v ≡ 1)
+place-told Accepted = ((λ _. refl), λ e. absurd (omega arith))
+place-told TooLong = ((λ _. refl), λ e. absurd (omega arith))
+place-told (BadRow n) = ((λ h. absurd (omega arith)), λ e. absurd (omega arith))
+place-told (OutOfRange n) = ((λ h. absurd (omega arith)), λ e. absurd (omega arith))
+place-told (Twice n) = ((λ h. absurd (omega arith)), λ e. absurd (omega arith))
+place-told NoSite = ((λ h. absurd (omega arith)), λ _. refl)
+place-told (NoExit l) = ((λ h. absurd (omega arith)), λ e. absurd (omega arith))
+place-told (Stray l) = ((λ h. absurd (omega arith)), λ e. absurd (omega arith))
+place-told (NoDoor l) = ((λ h. absurd (omega arith)), λ e. absurd (omega arith))
+place-told (NoRight p l) = ((λ h. absurd (omega arith)), λ e. absurd (omega arith))
+place-told (ShutOut p) = ((λ h. absurd (omega arith)), λ e. absurd (omega arith))
+
+second-told : (v : Verdict) → (site.numberOf v ≡ 9 → ⊥) → secondPlace v ≡ 0
+second-told Accepted n = refl
+second-told TooLong n = refl
+second-told (BadRow k) n = refl
+second-told (OutOfRange k) n = refl
+second-told (Twice k) n = refl
+second-told NoSite n = refl
+second-told (NoExit l) n = refl
+second-told (Stray l) n = refl
+second-told (NoDoor l) n = refl
+second-told (NoRight p l) n = absurd (n refl)
+second-told (ShutOut p) n = refl
+
+-- a sheet that isn't accepted gives the blank record
+abbrev Blank : SiteRead → Type 0
+Blank x = (site.numberOf (x .verdict) ≡ 0 → ⊥) → x .«record» ≡ blankRecord
+
+found-blank : (x : Found) (refusal : ℕ → Verdict) (on : SiteRead) → Blank on → Blank (unlessFound x refusal on)
+found-blank (At k) refusal on b some = refl
+found-blank Nothing refusal on b some = b some
+
+pair-blank : (x : RightFound) (refusal : ℕ → ℕ → Verdict) (on : SiteRead) → Blank on → Blank (unlessPair x refusal on)
+pair-blank (pair.At p l) refusal on b some = refl
+pair-blank pair.Nothing refusal on b some = b some
+
+judged-blank : (d : Draft) → Blank (judged d)
+unfolding judged
+judged-blank d =
+    found-blank (firstNoExit (d .locations) (d .given)) NoExit _
+    (found-blank (firstStray (d .locations) (d .exit)) Stray _
+    (found-blank (firstNoDoor (d .locations) (d .doors) (d .origin) (d .destination) (d .exit)) NoDoor _
+    (pair-blank (firstNoRight (d .people) (d .locations) (d .exit) (d .right)) NoRight _
+    (found-blank (firstShutOut (d .people) (d .doors) (d .origin) (d .destination) (d .right)) ShutOut (acceptedSite d)
+    (λ no-way. absurd (no-way refl))))))
+
+settled-blank : (x : Reading) → Blank (settled x)
+unfolding settled
+settled-blank x some =
+    either Blank (soundFault (x .fault)) (λ _. either Blank (eqb (x .draft .locations) 0) (λ _ _. refl) (λ _. judged-blank (x .draft))) (λ _ _. refl) some
+
+header-blank : (s : List ℕ) (cut : RowCut) → Blank (afterHeader s cut)
+unfolding afterHeader
+header-blank s (Cut cells next) some = either Blank (headerAt s cells) (λ _. settled-blank _) (λ _ _. refl) some
+header-blank s NoRow some = refl
+header-blank s (Broken byte) some = refl
+
+site-blank : (s : List ℕ) → Blank (siteOf s)
+unfolding siteOf
+site-blank s some = either Blank (ltb limit (length s)) (λ _ _. refl) (λ _. header-blank s (cutRow s 0)) some
+
+-- which isn't sound: it has no people
+blank-unsound : soundB blankRecord ≡ true → ⊥
+unfolding soundB lawfulB inRange countsFit andAlso
+blank-unsound e = false≢true e
+
+site-tells : (s : List ℕ) → SiteTells s
+site-tells s =
+    record {
+      number = number-most (siteOf s .verdict);
+      exactly = given-exactly s;
+      no-record = λ some. let e = site-blank s some in (e, λ t. blank-unsound (rw e at t));
+    }
+
+pub of-site : SiteAnswers
+of-site = record { read-site = site-tells; verdict-number = number-most; verdict-place = place-told; verdict-second-place = second-told }

@@ -1,0 +1,263 @@
+-- The parts of demand 2: the way outside, a step and its event, a decision, what steps alter, and how the lights count down; what they
+-- say is in `specs/DemandTwo.antt`. Assumes nothing.
+use Prim.Native.Nat.{ℕ, _≤_, _<_}
+use mathlib.Core.Path.{_≡_, refl, sym, ap, subst, _∙_}
+use mathlib.Core.Bool.{true, false, false≢true}
+use mathlib.Core.List.{List, _++_}
+use mathlib.Core.Logic.{_↔_}
+use native.Mathlib.Omega.{arith}
+use borrow.Author.Tests.{eqb-true, eqb-false, ltb-true, ne-eqb, lt-ltb, le-leb}
+use lib.ListN.{length, getD, drop}
+use lib.Seq.{set-getD}
+use lib.Dec.{eqb, ltb}
+use Rattle.rules.specs.Tables.{orElse, andAlso}
+use Rattle.rules.proofs.Laws.{clash}
+use Rattle.rules.specs.Way.{wayOf, ifRoom, told, written}
+use Rattle.rules.proofs.WayOut.{the-way}
+use Rattle.record.specs.declared.record.Door.{Door}
+use Rattle.record.specs.declared.record.Record.{Record}
+use Rattle.record.specs.declared.table.Kind.{Kind}
+use Rattle.record.specs.declared.table.Kind.the-variants.{Card, Decide, Green, Red, Walk, Tick, Passed, Lapsed, Dark, Ack, Unknown}
+use Rattle.record.specs.declared.steps.Answer.the-variants.{Done}
+use Rattle.record.specs.declared.steps.Step.{Step}
+use Rattle.record.specs.declared.questions.WayAnswer.the-variants.{Length}
+use Rattle.record.specs.Phase.{free, read, granted, green, walked, expired, denied, red, dimmed, closed}
+use Rattle.record.specs.Doors.{doorOf, Tables, putDoor, Shaped}
+use Rattle.record.specs.Kinds.{allows, namesPerson}
+use Rattle.record.specs.Sound.{Sound}
+use Rattle.record.specs.Steps.{reasonFor, Admitted, Does, burns, effect, act, doing, stepOf, exist}
+use Rattle.record.specs.Run.{Row, lastOf}
+use Rattle.record.specs.Questions.{wayAnswerOf, wayWritten}
+use Rattle.record.proofs.Cases.{either}
+use Rattle.record.proofs.Ask.{place-is-location, way-out-safe, way-out-short}
+use Rattle.record.proofs.Right.{admitted}
+use Rattle.record.proofs.Tells.{sound-tells}
+use Rattle.record.proofs.Laws.{done-did, barred-12, act-done, becomes, door-after, sound-stays, shaped-stays, tables-stay, run-sound, run-shaped, run-tables}
+use Rattle.record.proofs.Laws.{denied-first, granted-exactly, green-burns, green-expires, red-burns, red-dims}
+use Rattle.site.specs.declared.read.Verdict.the-variants.{Accepted}
+use Rattle.site.specs.Site.{siteOf}
+use Rattle.site.proofs.Theorems.{accepted-holds}
+use Rattle.chapter.proofs.Theorems.{fresh-reads, step-acts, step-follows, tick-idles, refusal-alters-nothing, stands-for-one, idle-stands-for-none, denial-first}
+use Rattle.chapter.specs.M4 as m4
+use Rattle.chapter.specs.Reading.{constantsOf, stateOf}
+use Rattle.demands.specs.DemandTwo.{WayOutside, StepIsEvent, Light, Decided, NothingToAlter, no-light, green-whole, red-whole, GreenCounts, RedCounts}
+use Rattle.demands.proofs.DemandOne.{of-record}
+use Rattle.demands.proofs.Serial.{step-done}
+
+-- ---- the way outside
+
+-- the question for the way out of a location, on a list that has room for it
+way-told : (r : Record) → Shaped r → Sound r → (l : ℕ) → l < r .locations → (list : List ℕ) → length (wayOf (r .locations) (r .exit) l) ≤ length list
+    → (wayAnswerOf r l list ≡ Length (length (wayOf (r .locations) (r .exit) l)))
+    × (wayWritten r l list ≡ wayOf (r .locations) (r .exit) l ++ drop (length (wayOf (r .locations) (r .exit) l)) list)
+unfolding wayAnswerOf wayWritten told written ifRoom
+way-told r sh s l h list room =
+    let t = sound-tells r sh .back s in
+    let e = lt-ltb l (r .locations) h in
+    let q = le-leb (length (wayOf (r .locations) (r .exit) l)) (length list) room in
+    (rw (t, e, q), rw (t, e, q))
+
+pub way-of : (r : Record) → Shaped r → Sound r → (p : ℕ) → p < r .people → WayOutside r p
+way-of r sh s p h =
+    let l = getD (r .place) p 0 in
+    let there = place-is-location r s p h in
+    record {
+      way = wayOf (r .locations) (r .exit) l;
+      signed = the-way (s .tables) l there .is-way;
+      usable = way-out-safe r s p h;
+      short = way-out-short r p;
+      told = way-told r sh s l there;
+    }
+
+pub after-steps : (s : List ℕ) → siteOf s .verdict ≡ Accepted → (rows : List Row) (p : ℕ) → p < siteOf s .«record» .people
+    → WayOutside (lastOf (siteOf s .«record») rows) p
+after-steps s e rows p h =
+    let a = accepted-holds s e in
+    let r = siteOf s .«record» in
+    way-of (lastOf r rows) (run-shaped r rows (a .shaped)) (run-sound r rows (a .shaped) (a .sound)) p
+    (rw (ap (λ (t : Tables). t .people) (run-tables r rows)) h)
+
+-- ---- a step and its event
+
+pub is-event : (r : Record) → Shaped r → Sound r → (k : Kind) (d p : ℕ) → StepIsEvent r k d p
+is-event r sh s k d p =
+    record {
+      acts = step-acts r sh s k d p;
+      does = step-follows r sh s k d p;
+      one = stands-for-one r k d p;
+      ticks-on = tick-idles r sh s k d p;
+      no-event = idle-stands-for-none r k d p;
+      refused = refusal-alters-nothing r k d p;
+      sound-again = (shaped-stays r k d p sh, sound-stays r k d p sh s);
+    }
+
+-- the record of an accepted sheet is fresh, and so reads as the initial state
+pub starts : (s : List ℕ) → siteOf s .verdict ≡ Accepted → m4.Start (constantsOf (siteOf s .«record»)) (stateOf (siteOf s .«record»))
+starts s e =
+    let a = accepted-holds s e in
+    let t = a .tables in
+    subst (λ (r : Record). m4.Start (constantsOf r) (stateOf r)) (sym (a .fresh))
+    (fresh-reads (t .people) (t .locations) (t .doors) (t .origin) (t .destination) (t .exit) (t .right))
+
+-- ---- a decision
+
+-- a door of a sound record that is so takes the order for one light and not for the other
+module _ (r : Record) (sh : Shaped r) (s : Sound r) (d : ℕ) (h : d < r .doors) where
+  lights : (on off : Kind) (burning : ℕ) → namesPerson on ≡ false → namesPerson off ≡ false → allows on (getD (r .phase) d 0) ≡ true
+      → allows off (getD (r .phase) d 0) ≡ false → ((p : ℕ) → act r d (doing r on d p) .phase ≡ burning) → Light r d on off burning
+  unfolding exist orElse andAlso
+  lights on off burning nobody no-one ok no-way lit =
+      let e : (p : ℕ) → stepOf r on d p ≡ act r d (doing r on d p) = λ p. step-done r on d p sh s h (λ named. clash named nobody) ok in
+      let there : (p : ℕ) → exist r off d p ≡ true = λ p. rw (lt-ltb d (r .doors) h, no-one) in
+      record {
+        taken = λ p. ap (λ (x : Step). x .answer) (e p) ∙ act-done r d (doing r on d p);
+        burns = λ p. ap (λ (x : Step). x .phase) (e p) ∙ lit p;
+        other = λ p. ap (λ (x : Step). x .answer) (barred-12 r off d p (sound-tells r sh .back s) (there p) no-way);
+      }
+
+  -- a granted door
+  green-next : getD (r .phase) d 0 ≡ granted → Light r d Green Red green
+  unfolding act effect allows orElse
+  green-next is = lights Green Red green refl refl (rw is) (rw is) (λ _. refl)
+
+  -- a denied one
+  red-next : getD (r .phase) d 0 ≡ denied → Light r d Red Green red
+  unfolding act effect allows orElse
+  red-next is = lights Red Green red refl refl (rw is) (rw is) (λ _. refl)
+
+-- whoever isn't admitted is denied
+denies : (r : Record) (d p : ℕ) → stepOf r Decide d p .answer ≡ Done → (Admitted r d (getD (r .holder) d 0) → ⊥) → stepOf r Decide d p .phase ≡ denied
+unfolding act effect
+denies r d p e no-way =
+    let h = getD (r .holder) d 0 in
+    rw (done-did r Decide d p e .1)
+    (either (λ x. act r d x .phase ≡ denied) (eqb (reasonFor r d h) 0) (λ z. absurd (no-way (admitted r d h (eqb-true _ _ z)))) (λ _. refl))
+
+-- a door that exists does so after any step
+door-stays : (r : Record) (k : Kind) (d p : ℕ) → stepOf r k d p .answer ≡ Done → d < stepOf r k d p .next .doors
+door-stays r k d p e = rw (ap (λ (t : Tables). t .doors) (tables-stay r k d p)) (done-did r k d p e .0 .a-door)
+
+pub decided : (r : Record) → Shaped r → Sound r → (d p : ℕ) → stepOf r Decide d p .answer ≡ Done → Decided r d (stepOf r Decide d p)
+decided r sh s d p e =
+    let next = stepOf r Decide d p .next in
+    let sh′ = shaped-stays r Decide d p sh in
+    let s′ = sound-stays r Decide d p sh s in
+    let there = door-stays r Decide d p e in
+    let now = of-record .step r Decide d p .phase-after sh e in
+    record {
+      granted-when = granted-exactly r d p e;
+      denied-when = (λ is a. let was = granted-exactly r d p e .1 a in omega arith, denies r d p e);
+      green-then = λ a. green-next next sh′ s′ d there (sym now ∙ granted-exactly r d p e .1 a);
+      red-then = λ no-way. red-next next sh′ s′ d there (sym now ∙ denies r d p e no-way);
+      reason = denied-first r d p e;
+      guard = denial-first r s d p e;
+    }
+
+-- ---- what steps alter
+
+-- a step that leaves its door as it is has nothing to alter
+module _ (r : Record) (d p why : ℕ) where
+  abbrev c : Door
+  c = doorOf r d
+
+  abbrev Same : Kind → Does → Type 0
+  Same k x = c ≡ becomes c x → NothingToAlter r d k
+
+  phase-is : {x : Door} → c ≡ x → c .phase ≡ x .phase
+  phase-is e = ap (λ (y : Door). y .phase) e
+
+  count-is : {x : Door} → c ≡ x → c .count ≡ x .count
+  count-is e = ap (λ (y : Door). y .count) e
+
+  only-then : (k : Kind) → allows k (c .phase) ≡ true → Same k (effect k p why c)
+  unfolding allows effect
+  only-then Card ok e = let a = eqb-true (c .phase) free ok in let b = phase-is e in absurd (omega arith)
+  only-then Decide ok e =
+      let a = eqb-true (c .phase) read ok in
+      either (Same Decide) (eqb why 0) (λ _ e. let b = phase-is e in absurd (omega arith)) (λ _ e. let b = phase-is e in absurd (omega arith)) e
+  only-then Green ok e = green-whole (phase-is e) (count-is e)
+  only-then Red ok e = red-whole (phase-is e) (count-is e)
+  only-then Walk ok e = let a = eqb-true (c .phase) green ok in let b = phase-is e in absurd (omega arith)
+  only-then Tick ok e =
+      either (Same Tick) (eqb (c .phase) green) (λ is. lit (eqb-true _ _ is) (λ z. omega arith))
+      (λ no-green.
+      either (Same Tick) (eqb (c .phase) red) (λ is. lit (eqb-true _ _ is) (λ z. omega arith)) (λ no-red _. no-light (eqb-false _ _ no-green) (eqb-false _ _ no-red))) e
+    where
+      lit : {ph out : ℕ} → c .phase ≡ ph → (ph ≡ out → ⊥) → Same Tick (burns c out)
+      lit {ph} {out} is other =
+          either (Same Tick) (ltb 1 (c .count)) (λ more e. let a = ltb-true 1 (c .count) more in let b = count-is e in absurd (omega arith))
+          (λ _ e. absurd (other (sym is ∙ phase-is e)))
+  only-then Passed ok e = let a = eqb-true (c .phase) walked ok in let b = phase-is e in absurd (omega arith)
+  only-then Lapsed ok e = let a = eqb-true (c .phase) expired ok in let b = phase-is e in absurd (omega arith)
+  only-then Dark ok e = let a = eqb-true (c .phase) dimmed ok in let b = phase-is e in absurd (omega arith)
+  only-then Ack ok e = let a = eqb-true (c .phase) closed ok in let b = phase-is e in absurd (omega arith)
+  only-then Unknown ok e = absurd (false≢true ok)
+
+-- a door put as it is
+put-as-is : (r : Record) (d : ℕ) (c : Door) → doorOf r d ≡ c → putDoor r d c ≡ r
+put-as-is r d c e = subst (λ (x : Door). putDoor r d x ≡ r) e same
+  where
+    same : putDoor r d (doorOf r d) ≡ r
+    same =
+        let p = set-getD (r .phase) d 0 in
+        let q = set-getD (r .holder) d 0 in
+        let n = set-getD (r .count) d 0 in
+        λ i.
+        record {
+          people = r .people;
+          locations = r .locations;
+          doors = r .doors;
+          origin = r .origin;
+          destination = r .destination;
+          exit = r .exit;
+          right = r .right;
+          place = r .place;
+          phase = p i;
+          holder = q i;
+          count = n i;
+        }
+
+-- and a step that has nothing to alter alters nothing
+untouched : (r : Record) (k : Kind) (d p why : ℕ) → NothingToAlter r d k → act r d (effect k p why (doorOf r d)) .next ≡ r
+unfolding act effect
+untouched r k d p why (no-light a b) = rw (ne-eqb (getD (r .phase) d 0) green a, ne-eqb (getD (r .phase) d 0) red b)
+untouched r k d p why (green-whole is whole) = put-as-is r d _ (λ i. record { phase = is i; holder = getD (r .holder) d 0; count = whole i })
+untouched r k d p why (red-whole is whole) = put-as-is r d _ (λ i. record { phase = is i; holder = getD (r .holder) d 0; count = whole i })
+
+pub alters : (r : Record) → Shaped r → Sound r → (k : Kind) (d p : ℕ) → stepOf r k d p .answer ≡ Done → (stepOf r k d p .next ≡ r) ↔ NothingToAlter r d k
+alters r sh s k d p e =
+    let w = done-did r k d p e in
+    let why = reasonFor r d (getD (r .holder) d 0) in (
+      (λ same. only-then r d p why k (w .0 .allowed) (sym (ap (λ (x : Record). doorOf x d) same) ∙ door-after r k d p sh s e)),
+      (λ none. ap (λ (x : Step). x .next) (w .1) ∙ untouched r k d p why none),
+    )
+
+-- ---- countdowns
+
+-- what the order for a light leaves, from which the light burns
+module _ (r : Record) (sh : Shaped r) (s : Sound r) (d p : ℕ) where
+  pub green-counts : stepOf r Green d p .answer ≡ Done → GreenCounts r d (stepOf r Green d p)
+  unfolding effect
+  green-counts e =
+      let next = stepOf r Green d p .next in
+      let sh′ = shaped-stays r Green d p sh in
+      let s′ = sound-stays r Green d p sh s in
+      let there = door-stays r Green d p e in
+      let now = door-after r Green d p sh s e in
+      record {
+        burns = λ rows quiet few. green-burns next d (getD (r .holder) d 0) 300 rows sh′ s′ there now quiet few;
+        ends = λ rows quiet last q. green-expires next d (getD (r .holder) d 0) 300 q rows sh′ s′ there now quiet last;
+      }
+
+  pub red-counts : stepOf r Red d p .answer ≡ Done → RedCounts r d (stepOf r Red d p)
+  unfolding effect
+  red-counts e =
+      let next = stepOf r Red d p .next in
+      let sh′ = shaped-stays r Red d p sh in
+      let s′ = sound-stays r Red d p sh s in
+      let there = door-stays r Red d p e in
+      let now = door-after r Red d p sh s e in
+      record {
+        burns = λ rows quiet few. red-burns next d (getD (r .holder) d 0) 20 rows sh′ s′ there now quiet few;
+        ends = λ rows quiet last q. red-dims next d (getD (r .holder) d 0) 20 q rows sh′ s′ there now quiet last;
+      }

@@ -1,0 +1,88 @@
+-- The theorems of the panel, each under the letter's words. What each says is a record of named facts in `specs/`, a fact for each
+-- function or sentence with the papers' line beside it:
+--     demand-1          `specs/DemandOne.antt`
+--     demand-2          `specs/DemandTwo.antt`
+--     demand-3          `specs/Served.antt`, by `specs/Serving.antt`
+--     put-by-passages, refused-moves-nobody         `specs/Warden.antt`
+--     answers-unique    `specs/Unique.antt`
+--     twelve-cases      `specs/Cases.antt`
+-- They speak of the definitions that the promises in `src/` of each crate cite, so that they hold of the code. Assume nothing.
+use Prim.Native.Nat.{ℕ}
+use mathlib.Core.Path.{_≡_}
+use mathlib.Core.List.{List}
+use Rattle.record.specs.Run.{Row}
+use Rattle.site.specs.declared.read.Verdict.the-variants.{Accepted}
+use Rattle.site.specs.Site.{siteOf}
+use Rattle.site.proofs.Theorems.{accepted-exactly, accepted-holds}
+use Rattle.chapter.proofs.Theorems.{constants-obey, panel-runs}
+use Rattle.demands.specs.DemandOne.{DemandOne}
+use Rattle.demands.specs.DemandTwo.{DemandTwo}
+use Rattle.demands.specs.Served.{DemandThree}
+use Rattle.demands.specs.Warden.{PutByPassages, RefusedMovesNobody}
+use Rattle.demands.specs.Unique.{AnswersUnique}
+use Rattle.demands.specs.Cases.{TwelveCases}
+use Rattle.demands.proofs.DemandOne.{of-sheet, of-rules, of-record, of-site}
+use Rattle.demands.proofs.DemandTwo.{way-of, after-steps, is-event, decided, starts, alters, green-counts, red-counts}
+use Rattle.demands.proofs.DemandThree as three
+use Rattle.demands.proofs.Warden as warden
+use Rattle.demands.proofs.Accepted.{accepted-fresh}
+use Rattle.demands.proofs.Unique.{sheet-unique, rules-unique, record-unique, site-unique, papers-unique}
+use Rattle.demands.proofs.TwelveCases as cases
+
+-- "1. Any sheet of text, any record, any number for a door or a person: the panel ends, and acts or refuses by a number from the
+-- papers. A refusal alters no record and no list lent to it."
+pub demand-1 : DemandOne
+demand-1 = record { of-sheet = of-sheet; of-rules = of-rules; of-record = of-record; of-site = of-site }
+
+-- "2. A site sheet is accepted exactly when it obeys the written rules, and its record holds what its rows say, so everybody has a
+-- signed way outside which they may use. Each step does what the events of the location access chapter, to its fourth refinement,
+-- say: it acts exactly when it may, is green exactly when all three conditions hold, otherwise red with the first reason that
+-- applies."
+pub demand-2 : DemandTwo
+demand-2 =
+    record {
+      accepted = accepted-exactly;
+      holds = accepted-holds;
+      way-outside-of = way-of;
+      way-outside = after-steps;
+      step = is-event;
+      decision = decided;
+      axioms = constants-obey;
+      starts = starts;
+      runs = panel-runs;
+      whole-run = cases.whole-run;
+      whole-run-places = cases.whole-run-places;
+      alters = alters;
+      green-counts = green-counts;
+      red-counts = red-counts;
+    }
+
+-- "3. Any list of steps from a fresh record can be served one card at a time, in the order of what was recorded, with everyone
+-- standing where the real record has them and each card getting the decision it got, for the same reason (a card refused only for
+-- another open grant is then granted and not used)."
+pub demand-3 : (s : List ℕ) → siteOf s .verdict ≡ Accepted → (rows : List Row) → DemandThree (siteOf s .«record») rows
+demand-3 s e rows = three.demand-3 (siteOf s .«record») (accepted-fresh s e) rows
+
+-- So no order or lateness of messages puts a person where no recorded passage put them,
+pub put-by-passages : (s : List ℕ) → siteOf s .verdict ≡ Accepted → (rows : List Row) → PutByPassages (siteOf s .«record») rows
+put-by-passages s e rows = warden.put-by-passages (siteOf s .«record») (accepted-fresh s e) rows
+
+-- and a refused card moves nobody.
+pub refused-moves-nobody : (s : List ℕ) → siteOf s .verdict ≡ Accepted → (rows : List Row) → RefusedMovesNobody (siteOf s .«record») rows
+refused-moves-nobody s e rows = warden.refused-moves-nobody (siteOf s .«record») (accepted-fresh s e) rows
+
+-- "Each public function says, for every input, its answer and every byte or field it was lent, refusals too. That two answers both
+-- allowed are equal is itself a theorem."
+pub answers-unique : AnswersUnique
+answers-unique =
+    record {
+      of-sheet = sheet-unique;
+      of-rules = rules-unique;
+      of-record = record-unique;
+      of-site = site-unique;
+      of-the-papers = papers-unique;
+    }
+
+-- "Twelve cases to prove .. They are proved together as one checked list."
+pub twelve-cases : TwelveCases
+twelve-cases = cases.twelve-cases

@@ -1,0 +1,87 @@
+-- Answers are unique, crate by crate; what that says of each function is in `specs/Unique.antt`. Assumes nothing.
+use Prim.Native.Nat.{ℕ}
+use mathlib.Core.Path.{_≡_, sym, _∙_}
+use mathlib.Core.List.{List}
+use Rattle.record.proofs.Right.{reason-only}
+use Rattle.site.proofs.Only.{gives-site}
+use Rattle.demands.specs.Unique.{Unique, SheetUnique, RulesUnique, RecordUnique, SiteUnique, PapersUnique}
+
+-- an equation allows one answer,
+alone : {A : Type 0} {a : A} → Unique (λ (x : A). x ≡ a)
+alone x y p q = p ∙ sym q
+
+-- two equations one answer and one list,
+beside : {A : Type 0} {a : A} {l : List ℕ} → Unique (λ (x : A × List ℕ). (x .0 ≡ a) × (x .1 ≡ l))
+beside x y p q = let e = p .0 ∙ sym (q .0) in let f = p .1 ∙ sym (q .1) in λ i. (e i, f i)
+
+-- and four one answer and three lists
+beside-three : {A : Type 0} {a : A} {l m n : List ℕ}
+    → Unique (λ (x : A × List ℕ × List ℕ × List ℕ). (x .0 ≡ a) × (x .1 ≡ l) × (x .2 ≡ m) × (x .3 ≡ n))
+beside-three x y p q =
+    let e = p .0 ∙ sym (q .0) in
+    let f = p .1 ∙ sym (q .1) in
+    let g = p .2 ∙ sym (q .2) in
+    let h = p .3 ∙ sym (q .3) in
+    λ i. (e i, f i, g i, h i)
+
+pub sheet-unique : SheetUnique
+sheet-unique =
+    record {
+      cut-field = λ s at. alone;
+      cut-row = λ s at. alone;
+      count-rows = λ s. alone;
+      is-word = λ s cell word. alone;
+      number-of = λ s cell. alone;
+    }
+
+pub rules-unique : RulesUnique
+rules-unique =
+    record {
+      may-be = λ right p l. alone;
+      in-range = λ people locations doors origin destination exit. alone;
+      first-no-exit = λ locations given. alone;
+      first-stray = λ locations exit. alone;
+      first-no-door = λ locations doors origin destination exit. alone;
+      first-no-right = λ people locations exit right. alone;
+      first-shut-out = λ people doors origin destination right. alone;
+      lawful = λ people locations doors origin destination exit right. alone;
+      way-out = λ locations exit from list. beside;
+    }
+
+pub record-unique : RecordUnique
+record-unique =
+    record {
+      door-free = alone;
+      fresh = λ people locations doors origin destination exit right. alone;
+      is-sound = λ r. alone;
+      answer-number = λ a. alone;
+      kind-of = λ n. alone;
+      allowed-in = λ k phase. alone;
+      step = λ r k d p. alone;
+      step-numbered = λ r n d p. alone;
+      card = λ r d p. alone;
+      decide = λ r d. alone;
+      green = λ r d. alone;
+      red = λ r d. alone;
+      walk = λ r d. alone;
+      tick = λ r d. alone;
+      passed = λ r d. alone;
+      lapsed = λ r d. alone;
+      dark = λ r d. alone;
+      ack = λ r d. alone;
+      run = λ r steps doors persons answers phases reasons. beside-three;
+      place-of = λ r p. alone;
+      granted-to = λ r p. alone;
+      way-out = λ r l list. beside;
+    }
+
+pub site-unique : SiteUnique
+site-unique =
+    record { read-site = λ s. alone; verdict-number = λ v. alone; verdict-place = λ v. alone; verdict-second-place = λ v. alone }
+
+pub papers-unique : PapersUnique
+papers-unique =
+    record {
+      table-of-numbers = λ s v w g h. sym (gives-site g) ∙ gives-site h;
+      first-reason = λ r d p n m a b. sym (reason-only r d p n a) ∙ reason-only r d p m b;
+    }

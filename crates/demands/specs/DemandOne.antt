@@ -1,0 +1,258 @@
+-- Demand 1: "Any sheet of text, any record, any number for a door or a person: the panel ends, and acts or refuses by a number
+-- from the papers. A refusal alters no record and no list lent to it." Each field is a public function, and says what follows of
+-- the definition that its promise cites. A function that answers no number tells a place or a fact: the place is there, the fact
+-- is told exactly.
+use Prim.Native.Nat.{ℕ, _≤_, _<_}
+use mathlib.Core.Path.{_≡_}
+use mathlib.Core.Bool.{Bool, true, false}
+use mathlib.Core.List.{List, [], _∷_, _++_}
+use mathlib.Core.Logic.{_⊎_, _↔_}
+use lib.ListN.{length, getD, drop}
+use lib.Seq.{sets}
+use Rattle.sheet.specs.declared.cut.Cell.{Cell}
+use Rattle.sheet.specs.declared.cut.FieldCut.{FieldCut}
+use Rattle.sheet.specs.declared.cut.FieldCut.the-variants.{Next, Last, Fault}
+use Rattle.sheet.specs.declared.cut.RowCut.{RowCut}
+use Rattle.sheet.specs.declared.cut.RowCut.the-variants.{Cut, NoRow, Broken}
+use Rattle.sheet.specs.declared.count.Counted.{Counted}
+use Rattle.sheet.specs.declared.count.Counted.the-variants.{All, UpTo}
+use Rattle.sheet.specs.declared.say.Number.the-variants.{Is}
+use Rattle.sheet.specs.Cut.{cutField, cutRow}
+use Rattle.sheet.specs.Rows.{countRows}
+use Rattle.sheet.specs.Say.{contentAt, isWord, numberAt}
+use Rattle.rules.specs.declared.Found.the-variants.{At, Nothing}
+use Rattle.rules.specs.declared.RightFound.the-variants as pair
+use Rattle.rules.specs.declared.WayTold.the-variants.{Length, TooShort}
+use Rattle.rules.specs.Tables.{mayBe, mostLocations}
+use Rattle.rules.specs.Below.{Tells}
+use Rattle.rules.specs.Rules.{InRange, Lawful}
+use Rattle.rules.specs.Tests.{inRange, firstNoExit, firstStray, firstNoDoor, firstNoRight, firstShutOut, lawfulB}
+use Rattle.rules.specs.Way.{wayOf, told, written}
+use Rattle.record.specs.declared.record.Record.{Record}
+use Rattle.record.specs.declared.table.Kind.{Kind}
+use Rattle.record.specs.declared.table.Kind.the-variants.{Card, Decide, Green, Red, Walk, Tick, Passed, Lapsed, Dark, Ack, Unknown}
+use Rattle.record.specs.declared.steps.Answer.{Answer}
+use Rattle.record.specs.declared.steps.Answer.the-variants.{Done, NoSuch, NotAllowed, Unsound}
+use Rattle.record.specs.declared.steps.Step.{Step}
+use Rattle.record.specs.Answers.{numberOf}
+use Rattle.record.specs.Phase.{denied, closed}
+use Rattle.record.specs.Doors.{freshRecord, Shaped}
+use Rattle.record.specs.Grants.{grantOf}
+use Rattle.record.specs.Kinds.{kindOf, allows, namesPerson}
+use Rattle.record.specs.Table.{asked}
+use Rattle.record.specs.Sound.{ZeroBeyond, Sound}
+use Rattle.record.specs.SoundTest.{soundB}
+use Rattle.record.specs.Steps.{stepOf}
+use Rattle.record.specs.Run.{rowsOf, lastOf, toldOf, answerTold, phaseTold, reasonTold, runOf, answersOf, phasesOf, reasonsOf}
+use Rattle.record.specs.Questions.{placeOf, placeNumber, placeTold, grantedTo, grantNumber, grantTold, wayAnswerOf, wayWritten, wayNumber, lengthTold}
+use Rattle.site.specs.declared.read.Verdict.{Verdict}
+use Rattle.site.specs.Site.{siteOf, blankRecord, firstPlace, secondPlace}
+use Rattle.site.specs.Site as site
+use Rattle.site.specs.Gives.{Gives}
+
+-- ---- the order of the numbers
+
+-- "Steps and questions: 14, then 11, then 12 or 13.": a number, the fact without which it is given, and what is asked next
+infixr 5 _unless_then_
+pub data Order : Type 1 where
+  done : Order
+  _unless_then_ : ℕ → Type 0 → Order → Order
+
+-- n is the number of the first fact that fails, and 0 where none does
+abbrev pub Told : Order → ℕ → Type 0
+Told done n = n ≡ 0
+Told (m unless Fact then order) n = ((Fact → ⊥) × (n ≡ m)) ⊎ (Fact × Told order n)
+
+-- n is one of these numbers
+abbrev pub OneOf : List ℕ → ℕ → Type 0
+OneOf [] n = ⊥
+OneOf (m ∷ ms) n = (n ≡ m) ⊎ OneOf ms n
+
+-- ---- crate `sheet`
+
+-- a place told lies in the sheet, from `at` on
+pub record Within (s : List ℕ) (at place : ℕ) : Type 0 where
+  pub from : at ≤ place
+  pub to : place ≤ length s
+
+-- a field's content lies in the sheet
+abbrev pub Lies : List ℕ → Cell → Type 0
+Lies s cell = Within s (cell .start) (cell .end)
+
+abbrev pub FieldTold : List ℕ → ℕ → FieldCut → Type 0
+FieldTold s at (Next cell next) = Lies s cell × Within s at next
+FieldTold s at (Last cell next) = Lies s cell × Within s at next
+FieldTold s at (Fault byte) = Within s at byte
+
+abbrev pub RowTold : List ℕ → ℕ → RowCut → Type 0
+-- a row that is cut takes a byte at least, and its cells lie in the sheet
+RowTold s at (Cut cells next) =
+    (at < next) × (next ≤ length s) × Lies s (cells .first) × (2 ≤ cells .count → Lies s (cells .second)) × (3 ≤ cells .count → Lies s (cells .third))
+-- there is none at the sheet's end, and behind it
+RowTold s at NoRow = length s ≤ at
+RowTold s at (Broken byte) = Within s at byte
+
+abbrev pub CountTold : List ℕ → Counted → Type 0
+CountTold s (All rows) = rows ≤ length s
+CountTold s (UpTo rows byte) = (rows ≤ length s) × (byte ≤ length s)
+
+pub record SheetAnswers : Type 0 where
+  pub cut-field : (s : List ℕ) (at : ℕ) → at ≤ length s → FieldTold s at (cutField s at)
+  pub cut-row : (s : List ℕ) (at : ℕ) → RowTold s at (cutRow s at)
+  pub count-rows : (s : List ℕ) → CountTold s (countRows s)
+  -- a cell that is a word has its bytes
+  pub is-word : (s : List ℕ) (cell : Cell) (word : List ℕ) → isWord s cell word ≡ true → contentAt s cell ≡ word
+  -- "A number is 1 to 3 digits"
+  pub number-of : (s : List ℕ) (cell : Cell) (n : ℕ) → numberAt s cell ≡ Is n → n ≤ 999
+
+-- ---- crate `rules`
+
+-- 13: "list lent for a way out is shorter than the way"; else its length is told, and it stands in front, the rest unaltered
+pub record WayTells (way list : List ℕ) : Type 0 where
+  pub short : length list < length way → (told way list ≡ TooShort) × (written way list ≡ list)
+  pub room : length way ≤ length list → (told way list ≡ Length (length way)) × (written way list ≡ way ++ drop (length way) list)
+  pub most : length way ≤ 31
+
+-- a test tells its rule, and an offender that is told is there
+pub record RulesAnswers : Type 0 where
+  -- "Location 0 is everybody's", and no right is read for a location past the last
+  pub may-be : (right : List Bool) (p l : ℕ) → (mayBe right p 0 ≡ true) × (mostLocations ≤ l → mayBe right p l ≡ false)
+  pub in-range : (people locations doors : ℕ) (origin destination exit : List ℕ)
+      → Tells (inRange people locations doors origin destination exit) (InRange people locations doors origin destination exit)
+  pub first-no-exit : (locations : ℕ) (given : List Bool) (l : ℕ) → firstNoExit locations given ≡ At l → l < locations
+  pub first-stray : (locations : ℕ) (exit : List ℕ) (l : ℕ) → firstStray locations exit ≡ At l → l < locations
+  pub first-no-door : (locations doors : ℕ) (origin destination exit : List ℕ) (l : ℕ) → firstNoDoor locations doors origin destination exit ≡ At l
+      → l < locations
+  pub first-no-right : (people locations : ℕ) (exit : List ℕ) (right : List Bool) (p l : ℕ) → firstNoRight people locations exit right ≡ pair.At p l
+      → (p < people) × (l < locations)
+  pub first-shut-out : (people doors : ℕ) (origin destination : List ℕ) (right : List Bool) (p : ℕ)
+      → firstShutOut people doors origin destination right ≡ At p → p < people
+  pub lawful : (people locations doors : ℕ) (origin destination exit : List ℕ) (right : List Bool)
+      → Tells (lawfulB people locations doors origin destination exit right) (Lawful people locations doors origin destination exit right)
+  pub way-out : (locations : ℕ) (exit : List ℕ) (from : ℕ) (list : List ℕ) → WayTells (wayOf locations exit from) list
+
+-- ---- crate `record`: a step
+
+-- "Each names a door; `card` also a person.": they exist
+pub record Exists (r : Record) (k : Kind) (d p : ℕ) : Type 0 where
+  pub a-door : d < r .doors
+  pub a-person : namesPerson k ≡ true → p < r .people
+
+-- "14, then 11, then 12"; `soundB r ≡ true` is "the record is sound", as `is-sound` says below
+abbrev pub stepOrder : Record → Kind → ℕ → ℕ → Order
+stepOrder r k d p = 14 unless soundB r ≡ true then 11 unless Exists r k d p then 12 unless allows k (getD (r .phase) d 0) ≡ true then done
+
+-- s is what the step answers
+pub record StepTells (r : Record) (k : Kind) (d p : ℕ) (s : Step) : Type 0 where
+  pub number : Told (stepOrder r k d p) (numberOf (s .answer))
+  -- "After a refusal the record .. hold[s] what [it] held before."
+  pub unaltered : (s .answer ≡ Done → ⊥) → s .next ≡ r
+  -- "the door's phase afterwards (0 with 11 or 14)"
+  pub phase-after : Shaped r → s .answer ≡ Done → s .phase ≡ getD (s .next .phase) d 0
+  pub phase-as-it-was : s .answer ≡ NotAllowed → s .phase ≡ getD (r .phase) d 0
+  pub phase-untold : (s .answer ≡ NoSuch) ⊎ (s .answer ≡ Unsound) → s .phase ≡ 0
+  -- "and the reason (0 unless `decide` denied)"
+  pub no-reason : (s .answer ≡ Done → ⊥) → s .reason ≡ 0
+  pub a-reason : (s .reason ≡ 0 → ⊥) → (k ≡ Decide) × (s .phase ≡ denied)
+
+-- ---- crate `record`: a run and the questions
+
+-- each of the other lists is as long as the list of steps
+pub record Room (steps doors persons answers phases reasons : List ℕ) : Type 0 where
+  pub in-doors : length steps ≤ length doors
+  pub in-persons : length steps ≤ length persons
+  pub in-answers : length steps ≤ length answers
+  pub in-phases : length steps ≤ length phases
+  pub in-reasons : length steps ≤ length reasons
+
+pub record RunTells (r : Record) (steps doors persons answers phases reasons : List ℕ) : Type 0 where
+  pub number : Told (14 unless soundB r ≡ true then 13 unless Room steps doors persons answers phases reasons then done)
+      (numberOf (runOf r steps doors persons answers phases reasons .answer))
+  -- "After a refusal the record and every lent list hold what they held before."
+  pub unaltered : (runOf r steps doors persons answers phases reasons .answer ≡ Done → ⊥)
+      → (runOf r steps doors persons answers phases reasons .next ≡ r)
+      × (answersOf r steps doors persons answers phases reasons ≡ answers)
+      × (phasesOf r steps doors persons answers phases reasons ≡ phases)
+      × (reasonsOf r steps doors persons answers phases reasons ≡ reasons)
+  -- else the last record of the steps, and what was told of each in front of each list, the rest unaltered
+  pub ran : runOf r steps doors persons answers phases reasons .answer ≡ Done
+      → (runOf r steps doors persons answers phases reasons .next ≡ lastOf r (rowsOf steps doors persons))
+      × (answersOf r steps doors persons answers phases reasons ≡ sets answers 0 (toldOf answerTold r (rowsOf steps doors persons)))
+      × (phasesOf r steps doors persons answers phases reasons ≡ sets phases 0 (toldOf phaseTold r (rowsOf steps doors persons)))
+      × (reasonsOf r steps doors persons answers phases reasons ≡ sets reasons 0 (toldOf reasonTold r (rowsOf steps doors persons)))
+
+-- "A refused question tells its number, and 0 or none for all else."
+pub record PlaceTells (r : Record) (p : ℕ) : Type 0 where
+  pub number : Told (14 unless soundB r ≡ true then 11 unless p < r .people then done) (placeNumber (placeOf r p))
+  pub location : placeNumber (placeOf r p) ≡ 0 → placeTold (placeOf r p) ≡ getD (r .place) p 0
+  pub refused : (placeNumber (placeOf r p) ≡ 0 → ⊥) → placeTold (placeOf r p) ≡ 0
+
+pub record GrantTells (r : Record) (p : ℕ) : Type 0 where
+  pub number : Told (14 unless soundB r ≡ true then 11 unless p < r .people then done) (grantNumber (grantedTo r p))
+  pub a-door : grantNumber (grantedTo r p) ≡ 0 → grantTold (grantedTo r p) ≡ grantOf (r .doors) (r .phase) (r .holder) p
+  pub refused : (grantNumber (grantedTo r p) ≡ 0 → ⊥) → grantTold (grantedTo r p) ≡ Nothing
+
+pub record WayOutTells (r : Record) (l : ℕ) (list : List ℕ) : Type 0 where
+  pub number : Told
+      (14 unless soundB r ≡ true then 11 unless l < r .locations then 13 unless length (wayOf (r .locations) (r .exit) l) ≤ length list then done)
+      (wayNumber (wayAnswerOf r l list))
+  pub a-length : wayNumber (wayAnswerOf r l list) ≡ 0 → lengthTold (wayAnswerOf r l list) ≡ length (wayOf (r .locations) (r .exit) l)
+  -- "written into the front of a lent list .., the rest of the list unaltered"
+  pub in-front : wayNumber (wayAnswerOf r l list) ≡ 0
+      → wayWritten r l list ≡ wayOf (r .locations) (r .exit) l ++ drop (length (wayOf (r .locations) (r .exit) l)) list
+  pub refused : (wayNumber (wayAnswerOf r l list) ≡ 0 → ⊥) → lengthTold (wayAnswerOf r l list) ≡ 0
+  pub unaltered : (wayNumber (wayAnswerOf r l list) ≡ 0 → ⊥) → wayWritten r l list ≡ list
+
+pub record RecordAnswers : Type 0 where
+  -- the table's numbers of steps and questions
+  pub answer-number : (a : Answer) → OneOf (0 ∷ 11 ∷ 12 ∷ 13 ∷ 14 ∷ []) (numberOf a)
+  -- the test of soundness tells it, of every record whose lists are as long as its arrays
+  pub is-sound : (r : Record) → Shaped r → Tells (soundB r) (Sound r)
+  -- of lawful tables with 0 beyond the counts, the fresh record is sound
+  pub fresh : (people locations doors : ℕ) (origin destination exit : List ℕ) (right : List Bool) → Lawful people locations doors origin destination exit right
+      → ZeroBeyond people locations doors origin destination exit right → Sound (freshRecord people locations doors origin destination exit right)
+  -- a number past 9 names no step, and no phase allows that
+  pub kind-of : (n : ℕ) → 10 ≤ n → kindOf n ≡ Unknown
+  -- "one fixed table, a hundred entries": at the ten phases it says what the steps' own rules say
+  pub allowed-in : (k : Kind) (phase : ℕ) → phase ≤ closed → asked k phase ≡ allows k phase
+  pub step : (r : Record) (k : Kind) (d p : ℕ) → StepTells r k d p (stepOf r k d p)
+  pub step-numbered : (r : Record) (n d p : ℕ) → StepTells r (kindOf n) d p (stepOf r (kindOf n) d p)
+  pub card : (r : Record) (d p : ℕ) → StepTells r Card d p (stepOf r Card d p)
+  pub decide : (r : Record) (d : ℕ) → StepTells r Decide d 0 (stepOf r Decide d 0)
+  pub green : (r : Record) (d : ℕ) → StepTells r Green d 0 (stepOf r Green d 0)
+  pub red : (r : Record) (d : ℕ) → StepTells r Red d 0 (stepOf r Red d 0)
+  pub walk : (r : Record) (d : ℕ) → StepTells r Walk d 0 (stepOf r Walk d 0)
+  pub tick : (r : Record) (d : ℕ) → StepTells r Tick d 0 (stepOf r Tick d 0)
+  pub passed : (r : Record) (d : ℕ) → StepTells r Passed d 0 (stepOf r Passed d 0)
+  pub lapsed : (r : Record) (d : ℕ) → StepTells r Lapsed d 0 (stepOf r Lapsed d 0)
+  pub dark : (r : Record) (d : ℕ) → StepTells r Dark d 0 (stepOf r Dark d 0)
+  pub ack : (r : Record) (d : ℕ) → StepTells r Ack d 0 (stepOf r Ack d 0)
+  pub run : (r : Record) (steps doors persons answers phases reasons : List ℕ) → RunTells r steps doors persons answers phases reasons
+  pub place-of : (r : Record) (p : ℕ) → PlaceTells r p
+  pub granted-to : (r : Record) (p : ℕ) → GrantTells r p
+  pub way-out : (r : Record) (l : ℕ) (list : List ℕ) → WayOutTells r l list
+
+-- ---- crate `site`
+
+-- what is answered to a sheet: each number, with its place, exactly when its line of the table says so
+pub record SiteTells (s : List ℕ) : Type 0 where
+  pub number : site.numberOf (siteOf s .verdict) ≤ 10
+  pub exactly : (v : Verdict) → (siteOf s .verdict ≡ v) ↔ Gives s v
+  -- "A refused site sheet gives no new record.": the blank one, which isn't sound
+  pub no-record : (site.numberOf (siteOf s .verdict) ≡ 0 → ⊥) → (siteOf s .«record» ≡ blankRecord) × (soundB (siteOf s .«record») ≡ true → ⊥)
+
+pub record SiteAnswers : Type 0 where
+  pub read-site : (s : List ℕ) → SiteTells s
+  pub verdict-number : (v : Verdict) → site.numberOf v ≤ 10
+  -- column "Place told": 0 with 0 and 1, and 1 with 5
+  pub verdict-place : (v : Verdict) → (site.numberOf v ≤ 1 → firstPlace v ≡ 0) × (site.numberOf v ≡ 5 → firstPlace v ≡ 1)
+  -- "Unused place numbers are 0.": 9 alone tells two
+  pub verdict-second-place : (v : Verdict) → (site.numberOf v ≡ 9 → ⊥) → secondPlace v ≡ 0
+
+-- ---- all of them
+
+pub record DemandOne : Type 0 where
+  pub of-sheet : SheetAnswers
+  pub of-rules : RulesAnswers
+  pub of-record : RecordAnswers
+  pub of-site : SiteAnswers

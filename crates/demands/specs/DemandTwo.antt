@@ -1,0 +1,145 @@
+-- Demand 2: "A site sheet is accepted exactly when it obeys the written rules, and its record holds what its rows say, so everybody
+-- has a signed way outside which they may use. Each step does what the events of the location access chapter, to its fourth
+-- refinement, say: it acts exactly when it may, is green exactly when all three conditions hold, otherwise red with the first reason
+-- that applies." Behind it, what shuts out the wrong panels that 01 names ("What the promises leave no room for").
+use Prim.Native.Nat.{ℕ, _-_, _+_, _≤_, _<_}
+use mathlib.Core.Path.{_≡_}
+use mathlib.Core.List.{List, _++_}
+use mathlib.Core.Logic.{_⊎_, _↔_}
+use lib.ListN.{length, getD, drop}
+use Rattle.rules.specs.Rules.{SafeWay}
+use Rattle.rules.specs.Way.{Way}
+use Rattle.record.specs.declared.record.Record.{Record}
+use Rattle.record.specs.declared.table.Kind.{Kind}
+use Rattle.record.specs.declared.table.Kind.the-variants.{Decide, Green, Red, Tick}
+use Rattle.record.specs.declared.steps.Answer.the-variants.{Done, NotAllowed}
+use Rattle.record.specs.declared.steps.Step.{Step}
+use Rattle.record.specs.declared.questions.WayAnswer.the-variants.{Length}
+use Rattle.record.specs.Phase.{granted, green, expired, denied, red, dimmed}
+use Rattle.record.specs.Doors.{door, doorOf, Shaped}
+use Rattle.record.specs.Sound.{Sound}
+use Rattle.record.specs.Steps.{Admitted, First, stepOf}
+use Rattle.record.specs.Run.{Row, lastOf}
+use Rattle.record.specs.Lights.{ticks, Each, NoGreenNoWalk, NoRed}
+use Rattle.record.specs.Questions.{wayAnswerOf, wayWritten}
+use Rattle.site.specs.declared.read.Verdict.the-variants.{Accepted}
+use Rattle.site.specs.Site.{siteOf}
+use Rattle.site.specs.Gives.{Obeys}
+use Rattle.site.specs.Accepted.{AcceptedRecord}
+use Rattle.chapter.specs.Context.{Axioms}
+use Rattle.chapter.specs.Machines.{Same}
+use Rattle.chapter.specs.M4.{Event}
+use Rattle.chapter.specs.M4 as m4
+use Rattle.chapter.specs.Reading.{constantsOf, stateOf, StandsFor, Enabled, Idle, FirstFailing, RunOfEach}
+use Rattle.demands.specs.Serving.{heardOf}
+use Rattle.demands.specs.Cases.{freshSite}
+use Rattle.demands.specs.WholeRun.{runOf01, stepsIn}
+
+-- ---- the way outside
+
+-- "everybody has a signed way outside which they may use": person p of record r, from where they are
+pub record WayOutside (r : Record) (p : ℕ) : Type 0 where
+  pub way : List ℕ
+  -- "its exit followed by the way out of that exit, and nothing for location 0"
+  pub signed : Way (r .exit) (getD (r .place) p 0) way
+  -- to 0, through doors, by locations that they may be in
+  pub usable : SafeWay (r .doors) (r .origin) (r .destination) (r .right) p (getD (r .place) p 0) way
+  -- "has at most 31 members"
+  pub short : length way ≤ 31
+  -- and it is what the question for the way out tells and writes into any list that has room for it
+  pub told : (list : List ℕ) → length way ≤ length list
+      → (wayAnswerOf r (getD (r .place) p 0) list ≡ Length (length way))
+      × (wayWritten r (getD (r .place) p 0) list ≡ way ++ drop (length way) list)
+
+-- ---- a step and its event
+
+-- "Each step does what the events of the location access chapter, to its fourth refinement, say"
+pub record StepIsEvent (r : Record) (k : Kind) (d p : ℕ) : Type 0 where
+  -- "it acts exactly when it may": its event's guard holds, or it is a tick that takes no light's last
+  pub acts : (stepOf r k d p .answer ≡ Done) ↔ (Enabled r k d p ⊎ Idle r k d)
+  -- it does what the event does ..
+  pub does : (e : Event) → StandsFor r d p k e → m4.Guard (constantsOf r) (stateOf r) e
+      → Same (stateOf (stepOf r k d p .next)) (m4.action (constantsOf r) (stateOf r) e)
+  -- .. of which there is one at most
+  pub one : (e f : Event) → StandsFor r d p k e → m4.Guard (constantsOf r) (stateOf r) e → StandsFor r d p k f → m4.Guard (constantsOf r) (stateOf r) f → e ≡ f
+  -- to the chapter, such a tick is nothing
+  pub ticks-on : Idle r k d → Same (stateOf (stepOf r k d p .next)) (stateOf r)
+  pub no-event : (e : Event) → Idle r k d → StandsFor r d p k e → ⊥
+  -- a step that doesn't act alters nothing
+  pub refused : (stepOf r k d p .answer ≡ Done → ⊥) → stepOf r k d p .next ≡ r
+  -- and the next record is as sound as this one
+  pub sound-again : Shaped (stepOf r k d p .next) × Sound (stepOf r k d p .next)
+
+-- ---- a decision
+
+-- the order for one light is taken and that light burns, and the order for the other is refused
+pub record Light (r : Record) (d : ℕ) (on off : Kind) (burning : ℕ) : Type 0 where
+  pub taken : (p : ℕ) → stepOf r on d p .answer ≡ Done
+  pub burns : (p : ℕ) → stepOf r on d p .phase ≡ burning
+  pub other : (p : ℕ) → stepOf r off d p .answer ≡ NotAllowed
+
+-- "is green exactly when all three conditions hold, otherwise red with the first reason that applies": s is what `decide` answered
+-- of the card that door d holds
+pub record Decided (r : Record) (d : ℕ) (s : Step) : Type 0 where
+  pub granted-when : (s .phase ≡ granted) ↔ Admitted r d (getD (r .holder) d 0)
+  pub denied-when : (s .phase ≡ denied) ↔ (Admitted r d (getD (r .holder) d 0) → ⊥)
+  pub green-then : Admitted r d (getD (r .holder) d 0) → Light (s .next) d Green Red green
+  pub red-then : (Admitted r d (getD (r .holder) d 0) → ⊥) → Light (s .next) d Red Green red
+  -- "the first that applies", in 01's words and by the chapter's guards; 0 where all three hold
+  pub reason : First r d (getD (r .holder) d 0) (s .reason)
+  pub guard : FirstFailing (constantsOf r) (stateOf r) (getD (r .holder) d 0) d (s .reason)
+
+-- ---- what steps alter
+
+-- the steps that act and alter nothing: a tick of a door in neither 3 nor 7, and an order for a light whose countdown is still whole
+pub data NothingToAlter (r : Record) (d : ℕ) : Kind → Type 0 where
+  no-light : (getD (r .phase) d 0 ≡ green → ⊥) → (getD (r .phase) d 0 ≡ red → ⊥) → NothingToAlter r d Tick
+  green-whole : getD (r .phase) d 0 ≡ green → getD (r .count) d 0 ≡ 300 → NothingToAlter r d Green
+  red-whole : getD (r .phase) d 0 ≡ red → getD (r .count) d 0 ≡ 20 → NothingToAlter r d Red
+
+-- "A green door that gets neither another `green` nor a `walk` is expired after exactly as many of its own ticks as its countdown
+-- says": s is what the order for a light answered at door d. The countdown is the span less the door's ticks since, whatever happens
+-- at other doors, and with the last of them the light is out; the person whom the door holds stays
+pub record Counts (r : Record) (d : ℕ) (s : Step) (Quiet : Row → Type 0) (burning out span : ℕ) : Type 0 where
+  pub burns : (rows : List Row) → Each Quiet rows → ticks d rows < span
+      → doorOf (lastOf (s .next) rows) d ≡ door burning (getD (r .holder) d 0) (span - ticks d rows)
+  pub ends : (rows : List Row) → Each Quiet rows → ticks d rows + 1 ≡ span
+      → (p : ℕ) → doorOf (stepOf (lastOf (s .next) rows) Tick d p .next) d ≡ door out (getD (r .holder) d 0) 0
+
+-- "`green`: .. countdown 300. `red`: .. countdown 20."
+abbrev pub GreenCounts : Record → ℕ → Step → Type 0
+GreenCounts r d s = Counts r d s (NoGreenNoWalk d) green expired 300
+
+abbrev pub RedCounts : Record → ℕ → Step → Type 0
+RedCounts r d s = Counts r d s (NoRed d) red dimmed 20
+
+-- ---- all of it
+
+pub record DemandTwo : Type 1 where
+  -- "A site sheet is accepted exactly when it obeys the written rules,"
+  pub accepted : (s : List ℕ) → (siteOf s .verdict ≡ Accepted) ↔ Obeys s
+  -- "and its record holds what its rows say,"
+  pub holds : (s : List ℕ) → siteOf s .verdict ≡ Accepted → AcceptedRecord s
+  -- "so everybody has a signed way outside which they may use": in every sound record, and so after any list of steps
+  pub way-outside-of : (r : Record) → Shaped r → Sound r → (p : ℕ) → p < r .people → WayOutside r p
+  pub way-outside : (s : List ℕ) → siteOf s .verdict ≡ Accepted → (rows : List Row) (p : ℕ) → p < siteOf s .«record» .people
+      → WayOutside (lastOf (siteOf s .«record») rows) p
+  -- "Each step does what the events of the location access chapter .. say: it acts exactly when it may,"
+  pub step : (r : Record) → Shaped r → Sound r → (k : Kind) (d p : ℕ) → StepIsEvent r k d p
+  -- "is green exactly when all three conditions hold, otherwise red with the first reason that applies."
+  pub decision : (r : Record) → Shaped r → Sound r → (d p : ℕ) → stepOf r Decide d p .answer ≡ Done → Decided r d (stepOf r Decide d p)
+  -- "to its fourth refinement": the tables are constants as its axioms want them, the fresh record is its initial state, and any list
+  -- of steps is a run of each of its machines
+  pub axioms : (r : Record) → Sound r → Axioms (constantsOf r)
+  pub starts : (s : List ℕ) → siteOf s .verdict ≡ Accepted → m4.Start (constantsOf (siteOf s .«record»)) (stateOf (siteOf s .«record»))
+  pub runs : (r : Record) → Shaped r → Sound r → (rows : List Row) → RunOfEach r rows
+  -- "a panel that refuses everything, one that gives one light always": on 01's site the steps of 01's run are answered as 01 prints
+  -- them: row 2 is granted and row 6 denied, 9 and 10 are refused and all others act; and `where` prints 1 of person 0, 0 of person 1
+  pub whole-run : heardOf freshSite (stepsIn runOf01) ≡ runOf01
+  pub whole-run-places : (getD (lastOf freshSite (stepsIn runOf01) .place) 0 0 ≡ 1) × (getD (lastOf freshSite (stepsIn runOf01) .place) 1 0 ≡ 0)
+  -- "one whose steps alter nothing": a step that acts alters the record, but for those that have nothing to alter
+  pub alters : (r : Record) → Shaped r → Sound r → (k : Kind) (d p : ℕ) → stepOf r k d p .answer ≡ Done
+      → (stepOf r k d p .next ≡ r) ↔ NothingToAlter r d k
+  -- "and one whose countdown isn't the span less its ticks"
+  pub green-counts : (r : Record) → Shaped r → Sound r → (d p : ℕ) → stepOf r Green d p .answer ≡ Done → GreenCounts r d (stepOf r Green d p)
+  pub red-counts : (r : Record) → Shaped r → Sound r → (d p : ℕ) → stepOf r Red d p .answer ≡ Done → RedCounts r d (stepOf r Red d p)

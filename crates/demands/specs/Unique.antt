@@ -1,0 +1,126 @@
+-- "That two answers both allowed are equal is itself a theorem" (01, "What the promises leave no room for"). Each field is a public
+-- function: whatever its promise allows, the answer and what each lent list holds at exit, is one thing. The promise stands as in the
+-- function's `ensures`.
+use Prim.Native.Nat.{ℕ}
+use mathlib.Core.Path.{_≡_}
+use mathlib.Core.Bool.{Bool}
+use mathlib.Core.List.{List}
+use Rattle.sheet.specs.declared.cut.Cell.{Cell}
+use Rattle.sheet.specs.declared.cut.FieldCut.{FieldCut}
+use Rattle.sheet.specs.declared.cut.RowCut.{RowCut}
+use Rattle.sheet.specs.declared.count.Counted.{Counted}
+use Rattle.sheet.specs.declared.say.Number.{Number}
+use Rattle.sheet.specs.Cut.{cutField, cutRow}
+use Rattle.sheet.specs.Rows.{countRows}
+use Rattle.sheet.specs.Say.{isWord, numberAt}
+use Rattle.rules.specs.declared.Found.{Found}
+use Rattle.rules.specs.declared.RightFound.{RightFound}
+use Rattle.rules.specs.declared.WayTold.{WayTold}
+use Rattle.rules.specs.Tables.{mayBe}
+use Rattle.rules.specs.Tests.{inRange, firstNoExit, firstStray, firstNoDoor, firstNoRight, firstShutOut, lawfulB}
+use Rattle.rules.specs.Way.{wayOf, told, written}
+use Rattle.record.specs.declared.record.Door.{Door}
+use Rattle.record.specs.declared.record.Record.{Record}
+use Rattle.record.specs.declared.table.Kind.{Kind}
+use Rattle.record.specs.declared.table.Kind.the-variants.{Card, Decide, Green, Red, Walk, Tick, Passed, Lapsed, Dark, Ack}
+use Rattle.record.specs.declared.steps.Answer.{Answer}
+use Rattle.record.specs.declared.steps.Step.{Step}
+use Rattle.record.specs.declared.series.Ran.{Ran}
+use Rattle.record.specs.declared.questions.PlaceAnswer.{PlaceAnswer}
+use Rattle.record.specs.declared.questions.GrantAnswer.{GrantAnswer}
+use Rattle.record.specs.declared.questions.WayAnswer.{WayAnswer}
+use Rattle.record.specs.Answers.{numberOf}
+use Rattle.record.specs.Doors.{freeDoor, freshRecord}
+use Rattle.record.specs.Kinds.{kindOf}
+use Rattle.record.specs.Table.{asked}
+use Rattle.record.specs.SoundTest.{soundB}
+use Rattle.record.specs.Steps.{First, stepOf}
+use Rattle.record.specs.Run.{runOf, answersOf, phasesOf, reasonsOf}
+use Rattle.record.specs.Questions.{placeOf, grantedTo, wayAnswerOf, wayWritten}
+use Rattle.site.specs.declared.read.Verdict.{Verdict}
+use Rattle.site.specs.declared.read.SiteRead.{SiteRead}
+use Rattle.site.specs.Site.{siteOf, firstPlace, secondPlace}
+use Rattle.site.specs.Site as site
+use Rattle.site.specs.Gives.{Gives}
+
+-- two answers that a promise allows are equal
+abbrev pub Unique : {A : Type 0} → (A → Type 0) → Type 0
+Unique {A} Promise = (x y : A) → Promise x → Promise y → x ≡ y
+
+pub record SheetUnique : Type 0 where
+  pub cut-field : (s : List ℕ) (at : ℕ) → Unique (λ (x : FieldCut). x ≡ cutField s at)
+  pub cut-row : (s : List ℕ) (at : ℕ) → Unique (λ (x : RowCut). x ≡ cutRow s at)
+  pub count-rows : (s : List ℕ) → Unique (λ (x : Counted). x ≡ countRows s)
+  pub is-word : (s : List ℕ) (cell : Cell) (word : List ℕ) → Unique (λ (x : Bool). x ≡ isWord s cell word)
+  pub number-of : (s : List ℕ) (cell : Cell) → Unique (λ (x : Number). x ≡ numberAt s cell)
+
+pub record RulesUnique : Type 0 where
+  pub may-be : (right : List Bool) (p l : ℕ) → Unique (λ (x : Bool). x ≡ mayBe right p l)
+  pub in-range : (people locations doors : ℕ) (origin destination exit : List ℕ)
+      → Unique (λ (x : Bool). x ≡ inRange people locations doors origin destination exit)
+  pub first-no-exit : (locations : ℕ) (given : List Bool) → Unique (λ (x : Found). x ≡ firstNoExit locations given)
+  pub first-stray : (locations : ℕ) (exit : List ℕ) → Unique (λ (x : Found). x ≡ firstStray locations exit)
+  pub first-no-door : (locations doors : ℕ) (origin destination exit : List ℕ)
+      → Unique (λ (x : Found). x ≡ firstNoDoor locations doors origin destination exit)
+  pub first-no-right : (people locations : ℕ) (exit : List ℕ) (right : List Bool)
+      → Unique (λ (x : RightFound). x ≡ firstNoRight people locations exit right)
+  pub first-shut-out : (people doors : ℕ) (origin destination : List ℕ) (right : List Bool)
+      → Unique (λ (x : Found). x ≡ firstShutOut people doors origin destination right)
+  pub lawful : (people locations doors : ℕ) (origin destination exit : List ℕ) (right : List Bool)
+      → Unique (λ (x : Bool). x ≡ lawfulB people locations doors origin destination exit right)
+  -- the answer, and the lent list at exit
+  pub way-out : (locations : ℕ) (exit : List ℕ) (from : ℕ) (list : List ℕ)
+      → Unique (λ (x : WayTold × List ℕ). (x .0 ≡ told (wayOf locations exit from) list) × (x .1 ≡ written (wayOf locations exit from) list))
+
+pub record RecordUnique : Type 0 where
+  pub door-free : Unique (λ (x : Door). x ≡ freeDoor)
+  pub fresh : (people locations doors : ℕ) (origin destination exit : List ℕ) (right : List Bool)
+      → Unique (λ (x : Record). x ≡ freshRecord people locations doors origin destination exit right)
+  pub is-sound : (r : Record) → Unique (λ (x : Bool). x ≡ soundB r)
+  pub answer-number : (a : Answer) → Unique (λ (x : ℕ). x ≡ numberOf a)
+  pub kind-of : (n : ℕ) → Unique (λ (x : Kind). x ≡ kindOf n)
+  pub allowed-in : (k : Kind) (phase : ℕ) → Unique (λ (x : Bool). x ≡ asked k phase)
+  pub step : (r : Record) (k : Kind) (d p : ℕ) → Unique (λ (x : Step). x ≡ stepOf r k d p)
+  pub step-numbered : (r : Record) (n d p : ℕ) → Unique (λ (x : Step). x ≡ stepOf r (kindOf n) d p)
+  pub card : (r : Record) (d p : ℕ) → Unique (λ (x : Step). x ≡ stepOf r Card d p)
+  pub decide : (r : Record) (d : ℕ) → Unique (λ (x : Step). x ≡ stepOf r Decide d 0)
+  pub green : (r : Record) (d : ℕ) → Unique (λ (x : Step). x ≡ stepOf r Green d 0)
+  pub red : (r : Record) (d : ℕ) → Unique (λ (x : Step). x ≡ stepOf r Red d 0)
+  pub walk : (r : Record) (d : ℕ) → Unique (λ (x : Step). x ≡ stepOf r Walk d 0)
+  pub tick : (r : Record) (d : ℕ) → Unique (λ (x : Step). x ≡ stepOf r Tick d 0)
+  pub passed : (r : Record) (d : ℕ) → Unique (λ (x : Step). x ≡ stepOf r Passed d 0)
+  pub lapsed : (r : Record) (d : ℕ) → Unique (λ (x : Step). x ≡ stepOf r Lapsed d 0)
+  pub dark : (r : Record) (d : ℕ) → Unique (λ (x : Step). x ≡ stepOf r Dark d 0)
+  pub ack : (r : Record) (d : ℕ) → Unique (λ (x : Step). x ≡ stepOf r Ack d 0)
+  -- what is handed back, and the lists of answers, phases and reasons at exit
+  pub run : (r : Record) (steps doors persons answers phases reasons : List ℕ)
+      → Unique
+      (λ (x : Ran × List ℕ × List ℕ × List ℕ).
+      (x .0 ≡ runOf r steps doors persons answers phases reasons)
+      × (x .1 ≡ answersOf r steps doors persons answers phases reasons)
+      × (x .2 ≡ phasesOf r steps doors persons answers phases reasons)
+      × (x .3 ≡ reasonsOf r steps doors persons answers phases reasons))
+  pub place-of : (r : Record) (p : ℕ) → Unique (λ (x : PlaceAnswer). x ≡ placeOf r p)
+  pub granted-to : (r : Record) (p : ℕ) → Unique (λ (x : GrantAnswer). x ≡ grantedTo r p)
+  -- the answer, and the lent list at exit
+  pub way-out : (r : Record) (l : ℕ) (list : List ℕ)
+      → Unique (λ (x : WayAnswer × List ℕ). (x .0 ≡ wayAnswerOf r l list) × (x .1 ≡ wayWritten r l list))
+
+pub record SiteUnique : Type 0 where
+  pub read-site : (s : List ℕ) → Unique (λ (x : SiteRead). x ≡ siteOf s)
+  pub verdict-number : (v : Verdict) → Unique (λ (x : ℕ). x ≡ site.numberOf v)
+  pub verdict-place : (v : Verdict) → Unique (λ (x : ℕ). x ≡ firstPlace v)
+  pub verdict-second-place : (v : Verdict) → Unique (λ (x : ℕ). x ≡ secondPlace v)
+
+-- Where the papers say an answer by its conditions, not by a definition, they too allow one alone: the number and the place that
+-- the table gives a site sheet, and the first reason that applies.
+pub record PapersUnique : Type 0 where
+  pub table-of-numbers : (s : List ℕ) → Unique (Gives s)
+  pub first-reason : (r : Record) (d p : ℕ) → Unique (First r d p)
+
+pub record AnswersUnique : Type 0 where
+  pub of-sheet : SheetUnique
+  pub of-rules : RulesUnique
+  pub of-record : RecordUnique
+  pub of-site : SiteUnique
+  pub of-the-papers : PapersUnique
