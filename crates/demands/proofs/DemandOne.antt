@@ -488,7 +488,7 @@ of-record =
 
 -- ---- crate `site`
 
-number-most : (v : Verdict) → site.numberOf v ≤ 10
+pub number-most : (v : Verdict) → site.numberOf v ≤ 10
 number-most Accepted = omega arith
 number-most TooLong = omega arith
 number-most (BadRow n) = omega arith

@@ -22,17 +22,18 @@ use Rattle.demands.specs.Warden.{PutByPassages, RefusedMovesNobody}
 use Rattle.demands.specs.Unique.{AnswersUnique}
 use Rattle.demands.specs.Cases.{TwelveCases}
 use Rattle.demands.proofs.DemandOne.{of-sheet, of-rules, of-record, of-site}
+use Rattle.demands.proofs.Texts.{of-run}
 use Rattle.demands.proofs.DemandTwo.{way-of, after-steps, is-event, decided, starts, alters, green-counts, red-counts}
 use Rattle.demands.proofs.DemandThree as three
 use Rattle.demands.proofs.Warden as warden
 use Rattle.demands.proofs.Accepted.{accepted-fresh}
-use Rattle.demands.proofs.Unique.{sheet-unique, rules-unique, record-unique, site-unique, papers-unique}
+use Rattle.demands.proofs.Unique.{sheet-unique, rules-unique, record-unique, site-unique, run-unique, papers-unique}
 use Rattle.demands.proofs.TwelveCases as cases
 
 -- "1. Any sheet of text, any record, any number for a door or a person: the panel ends, and acts or refuses by a number from the
 -- papers. A refusal alters no record and no list lent to it."
 pub demand-1 : DemandOne
-demand-1 = record { of-sheet = of-sheet; of-rules = of-rules; of-record = of-record; of-site = of-site }
+demand-1 = record { of-sheet = of-sheet; of-rules = of-rules; of-record = of-record; of-site = of-site; of-run = of-run }
 
 -- "2. A site sheet is accepted exactly when it obeys the written rules, and its record holds what its rows say, so everybody has a
 -- signed way outside which they may use. Each step does what the events of the location access chapter, to its fourth refinement,
@@ -80,6 +81,7 @@ answers-unique =
       of-rules = rules-unique;
       of-record = record-unique;
       of-site = site-unique;
+      of-run = run-unique;
       of-the-papers = papers-unique;
     }
 

@@ -16,6 +16,8 @@ pub mod Accepted
 pub mod Example
 pub mod TwelveCases
 pub mod Unique
+pub mod Fits
 pub mod DemandOne
+pub mod Texts
 pub mod DemandTwo
 pub mod Demands

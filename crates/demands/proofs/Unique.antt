@@ -4,7 +4,7 @@ use mathlib.Core.Path.{_≡_, sym, _∙_}
 use mathlib.Core.List.{List}
 use Rattle.record.proofs.Right.{reason-only}
 use Rattle.site.proofs.Only.{gives-site}
-use Rattle.demands.specs.Unique.{Unique, SheetUnique, RulesUnique, RecordUnique, SiteUnique, PapersUnique}
+use Rattle.demands.specs.Unique.{Unique, SheetUnique, RulesUnique, RecordUnique, SiteUnique, RunUnique, PapersUnique}
 
 -- an equation allows one answer,
 alone : {A : Type 0} {a : A} → Unique (λ (x : A). x ≡ a)
@@ -78,6 +78,15 @@ record-unique =
 pub site-unique : SiteUnique
 site-unique =
     record { read-site = λ s. alone; verdict-number = λ v. alone; verdict-place = λ v. alone; verdict-second-place = λ v. alone }
+
+pub run-unique : RunUnique
+run-unique =
+    record {
+      heading-of = λ s. alone;
+      panel-text = λ site steps out. beside;
+      where-text = λ site steps out. beside;
+      printed-number = λ p. alone;
+    }
 
 pub papers-unique : PapersUnique
 papers-unique =

@@ -46,9 +46,16 @@ use Rattle.record.specs.Steps.{stepOf}
 use Rattle.record.specs.Run.{rowsOf, lastOf, toldOf, answerTold, phaseTold, reasonTold, runOf, answersOf, phasesOf, reasonsOf}
 use Rattle.record.specs.Questions.{placeOf, placeNumber, placeTold, grantedTo, grantNumber, grantTold, wayAnswerOf, wayWritten, wayNumber, lengthTold}
 use Rattle.site.specs.declared.read.Verdict.{Verdict}
-use Rattle.site.specs.Site.{siteOf, blankRecord, firstPlace, secondPlace}
+use Rattle.site.specs.Site.{limit, siteOf, blankRecord, firstPlace, secondPlace}
 use Rattle.site.specs.Site as site
 use Rattle.site.specs.Gives.{Gives}
+use Rattle.run.specs.declared.steps.Heading.{Heading}
+use Rattle.run.specs.declared.steps.Heading.the-variants as heading
+use Rattle.run.specs.declared.text.Printed.{Printed}
+use Rattle.run.specs.declared.text.Printed.the-variants.{Text}
+use Rattle.run.specs.Steps.{headingOf}
+use Rattle.run.specs.Printed.{panelText, whereText, printedOf, printedNumber}
+use Rattle.run.specs.Printed as run
 
 -- ---- the order of the numbers
 
@@ -249,6 +256,30 @@ pub record SiteAnswers : Type 0 where
   -- "Unused place numbers are 0.": 9 alone tells two
   pub verdict-second-place : (v : Verdict) → (site.numberOf v ≡ 9 → ⊥) → secondPlace v ≡ 0
 
+-- ---- crate `run`
+
+-- a sheet that isn't too long has a header behind which its rows begin, or a wrong one
+abbrev pub HeadingTold : List ℕ → Heading → Type 0
+HeadingTold s heading.TooLong = limit < length s
+HeadingTold s heading.Wrong = length s ≤ limit
+HeadingTold s (heading.Rows from) = (length s ≤ limit) × (1 ≤ from) × (from ≤ length s)
+
+-- 13: "list lent .. is shorter"; else the text stands in front, its length told, and the rest is unaltered
+pub record TextTells (text out : List ℕ) : Type 0 where
+  pub number : Told (13 unless length text ≤ length out then done) (printedNumber (printedOf text out))
+  pub a-length : length text ≤ length out → printedOf text out ≡ Text (length text)
+  pub in-front : length text ≤ length out → run.written text out ≡ text ++ drop (length text) out
+  pub unaltered : length out < length text → run.written text out ≡ out
+
+pub record RunAnswers : Type 0 where
+  pub heading-of : (s : List ℕ) → HeadingTold s (headingOf s)
+  pub panel-text : (site steps out : List ℕ) → TextTells (panelText site steps) out
+  pub where-text : (site steps out : List ℕ) → TextTells (whereText site steps) out
+  pub printed-number : (p : Printed) → OneOf (0 ∷ 13 ∷ []) (printedNumber p)
+  -- the programs lend lists of 81,920 and of 512 bytes: no text is too long for them, so that each is printed whole
+  pub panel-fits : (site steps : List ℕ) → length (panelText site steps) ≤ 81920
+  pub where-fits : (site steps : List ℕ) → length (whereText site steps) ≤ 512
+
 -- ---- all of them
 
 pub record DemandOne : Type 0 where
@@ -256,3 +287,4 @@ pub record DemandOne : Type 0 where
   pub of-rules : RulesAnswers
   pub of-record : RecordAnswers
   pub of-site : SiteAnswers
+  pub of-run : RunAnswers

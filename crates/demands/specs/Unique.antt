@@ -42,6 +42,11 @@ use Rattle.site.specs.declared.read.SiteRead.{SiteRead}
 use Rattle.site.specs.Site.{siteOf, firstPlace, secondPlace}
 use Rattle.site.specs.Site as site
 use Rattle.site.specs.Gives.{Gives}
+use Rattle.run.specs.declared.steps.Heading.{Heading}
+use Rattle.run.specs.declared.text.Printed.{Printed}
+use Rattle.run.specs.Steps.{headingOf}
+use Rattle.run.specs.Printed.{panelText, whereText, printedOf, printedNumber}
+use Rattle.run.specs.Printed as run
 
 -- two answers that a promise allows are equal
 abbrev pub Unique : {A : Type 0} → (A → Type 0) → Type 0
@@ -112,6 +117,15 @@ pub record SiteUnique : Type 0 where
   pub verdict-place : (v : Verdict) → Unique (λ (x : ℕ). x ≡ firstPlace v)
   pub verdict-second-place : (v : Verdict) → Unique (λ (x : ℕ). x ≡ secondPlace v)
 
+pub record RunUnique : Type 0 where
+  pub heading-of : (s : List ℕ) → Unique (λ (x : Heading). x ≡ headingOf s)
+  -- the answer, and the lent list at exit
+  pub panel-text : (site steps out : List ℕ)
+      → Unique (λ (x : Printed × List ℕ). (x .0 ≡ printedOf (panelText site steps) out) × (x .1 ≡ run.written (panelText site steps) out))
+  pub where-text : (site steps out : List ℕ)
+      → Unique (λ (x : Printed × List ℕ). (x .0 ≡ printedOf (whereText site steps) out) × (x .1 ≡ run.written (whereText site steps) out))
+  pub printed-number : (p : Printed) → Unique (λ (x : ℕ). x ≡ printedNumber p)
+
 -- Where the papers say an answer by its conditions, not by a definition, they too allow one alone: the number and the place that
 -- the table gives a site sheet, and the first reason that applies.
 pub record PapersUnique : Type 0 where
@@ -123,4 +137,5 @@ pub record AnswersUnique : Type 0 where
   pub of-rules : RulesUnique
   pub of-record : RecordUnique
   pub of-site : SiteUnique
+  pub of-run : RunUnique
   pub of-the-papers : PapersUnique

@@ -1,10 +1,10 @@
 -- What each step makes of a sound record is sound: what it puts at its door is right for that door. Assumes nothing.
 use Prim.Native.Nat.{ℕ, _≤_, _<_, _-_}
-use mathlib.Core.Path.{_≡_, refl, sym, subst, _∙_}
-use mathlib.Core.Bool.{Bool, true, false, not, true≢false, false≢true}
+use mathlib.Core.Path.{_≡_, refl, subst}
+use mathlib.Core.Bool.{true, false, true≢false, false≢true}
 use mathlib.Core.Logic.{⊎-elim}
 use native.Mathlib.Omega.{arith}
-use borrow.Author.Tests.{eqb-true, eqb-false, ltb-true, eq-eqb, ne-eqb, le-leb, leb-true, not-false}
+use borrow.Author.Tests.{eqb-true, eqb-false, ltb-true, eq-eqb, ne-eqb, le-leb, leb-true}
 use lib.ListN.{getD}
 use lib.Dec.{eqb, ltb, lit≤}
 use Rattle.rules.specs.Tables.{mayBe, orElse, andAlso}
@@ -18,11 +18,9 @@ use Rattle.record.specs.Doors.{door, doorOf, putDoor, Shaped}
 use Rattle.record.specs.Sound.{DoorOk, Sound}
 use Rattle.record.specs.Kinds.{allows, namesPerson}
 use Rattle.record.specs.Grants.{GrantAt, hasGrant}
-use Rattle.record.specs.Steps.{reasonFor, Admitted, First, none, away, barred, busy, Does, stays, turns, moves, burns, effect, act, exist, Ready}
-use Rattle.record.specs.Table.{asked}
+use Rattle.record.specs.Steps.{reasonFor, Admitted, First, none, away, barred, busy, Does, stays, turns, moves, burns, effect, act}
 use Rattle.record.proofs.Cases.{either, same-or-not, one-of}
 use Rattle.record.proofs.Granting.{no-grant, has-grant, none-found, one-found}
-use Rattle.record.proofs.Entries.{table-allows}
 use Rattle.record.proofs.Keep.{put-same, put-grant, put-sound, put-shaped, at-sound, at-shaped}
 
 -- ---- a denial's reason
@@ -220,52 +218,3 @@ unfolding act
 act-shaped r sh d stays = sh
 act-shaped r sh d (turns c why) = put-shaped r sh d c
 act-shaped r sh d (moves c) = at-shaped (putDoor r d c) (put-shaped r sh d c) (getD (r .holder) d 0) (getD (r .destination) d 0)
-
--- ---- numbers that are below the arrays' lengths
-
-pub card-below : (r : Record) (k : Kind) (d p : ℕ) → Ready r k d p → k ≡ Card → p < 64
-card-below r k d p ready is =
-    let exists = ready .a-person (rw is) in
-    let most = ready .sound .tables .in-range .people-to in
-    omega arith
-
-held-below : (r : Record) (k : Kind) (d p ph : ℕ) → Ready r k d p → keeps ph ≡ true → eqb (getD (r .phase) d 0) ph ≡ true → getD (r .holder) d 0 < 64
-held-below r k d p ph ready kept at =
-    let exists = ready .sound .doors d (ready .a-door) .held (rw (eqb-true (getD (r .phase) d 0) ph at) kept) in
-    let most = ready .sound .tables .in-range .people-to in
-    omega arith
-
-pub decide-below : (r : Record) (k : Kind) (d p : ℕ) → Ready r k d p → k ≡ Decide → getD (r .holder) d 0 < 64
-unfolding allows keeps andAlso
-decide-below r k d p ready is = held-below r k d p read ready refl (rw is at (ready .allowed))
-
-pub passed-below : (r : Record) (k : Kind) (d p : ℕ) → Ready r k d p → k ≡ Passed → getD (r .holder) d 0 < 64
-unfolding allows keeps andAlso
-passed-below r k d p ready is = held-below r k d p walked ready refl (rw is at (ready .allowed))
-
--- ---- what the tests of a step tell: e whether the numbers exist, a what the table says
-
-module _ (r : Record) (k : Kind) (d p : ℕ) (s : Sound r) (e : Bool) (exists : e ≡ exist r k d p) (some : not e ≡ false) where
-  there : exist r k d p ≡ true
-  there = sym exists ∙ not-false e some
-
-  a-door : d < r .doors
-  unfolding exist
-  a-door = ltb-true d (r .doors) (and-left _ _ there)
-
-  pub door-below : d < 64
-  door-below = let h = a-door in let most = s .tables .in-range .doors-to in omega arith
-
-  -- the table says what the step's own rule says
-  pub by-rule : (a : Bool) → a ≡ asked k (getD (r .phase) d 0) → a ≡ allows k (getD (r .phase) d 0)
-  by-rule a says = says ∙ table-allows k (getD (r .phase) d 0) (s .doors d a-door .known)
-
-  pub is-ready : (a : Bool) → a ≡ asked k (getD (r .phase) d 0) → not a ≡ false → Ready r k d p
-  unfolding exist orElse
-  is-ready a says yes-too =
-      record {
-        sound = s;
-        a-door = a-door;
-        a-person = λ n. ltb-true p (r .people) (rw n at (and-right (ltb d (r .doors)) _ there));
-        allowed = sym (by-rule a says) ∙ not-false a yes-too;
-      }

@@ -8,6 +8,7 @@ pub mod Grants
 pub mod Sound
 pub mod SoundTest
 pub mod Steps
+pub mod Deeds
 pub mod Run
 pub mod Lights
 pub mod Questions

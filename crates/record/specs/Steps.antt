@@ -1,5 +1,5 @@
 -- What each step does (01, "Steps"): `stepOf` is the whole of it.
-use Prim.Native.Nat.{ℕ, _-_, _<_}
+use Prim.Native.Nat.{ℕ, _-_}
 use mathlib.Core.Path.{_≡_}
 use mathlib.Core.Bool.{Bool, true, false, not, cond}
 use lib.ListN.{getD}
@@ -16,7 +16,6 @@ use Rattle.record.specs.Phase.{read, granted, green, walked, expired, de
 use Rattle.record.specs.Doors.{door, freeDoor, doorOf, putDoor, putAt}
 use Rattle.record.specs.Kinds.{allows, namesPerson}
 use Rattle.record.specs.Grants.{GrantAt, hasGrant}
-use Rattle.record.specs.Sound.{Sound}
 use Rattle.record.specs.SoundTest.{soundB}
 
 -- "Granted when the person is at the door's origin, has a right to its destination and has no grant. Otherwise denied with
@@ -102,13 +101,6 @@ refused r answer phase = record { next = r; answer = answer; phase = phase; reas
 -- do the door and, of a card, the person exist?
 unfoldable pub exist : Record → Kind → ℕ → ℕ → Bool
 exist r k d p = andAlso (ltb d (r .doors)) (orElse (not (namesPerson k)) (ltb p (r .people)))
-
--- the step may be done: the record is sound, the numbers exist, and the door's phase allows it
-pub record Ready (r : Record) (k : Kind) (d p : ℕ) : Type 0 where
-  pub sound : Sound r
-  pub a-door : d < r .doors
-  pub a-person : namesPerson k ≡ true → p < r .people
-  pub allowed : allows k (getD (r .phase) d 0) ≡ true
 
 -- what a step that may be done does at its door
 abbrev pub doing : Record → Kind → ℕ → ℕ → Does

@@ -1,6 +1,6 @@
 // The record of people and doors: what it holds (`record`, `phase`), when it is sound (`sound`), the
 // ten steps (`table`, `steps`), the run of a list of steps (`series`) and the three questions
-// (`questions`). `lists` and `grants` read the lists that are lent inside.
+// (`questions`). `lists` reads and writes the lists that are lent inside, and `grants` reads them.
 mod grants;
 mod lists;
 pub mod phase;

@@ -1,6 +1,6 @@
-// Entries of lent lists: total, so that whoever reads a list need not know its length.
+// Entries of lent lists: total, so that whoever reads or writes a list need not know its length.
 ghost use mathlib.Core.Path.{_≡_};
-ghost use lib.ListN.{getD};
+ghost use lib.ListN.{getD, set};
 
 // The entry of a list of numbers, and 0 past its end.
 pub(crate) fn byte_at(list: &[u8], at: usize) -> u8
@@ -19,4 +19,21 @@ pub(crate) fn word_at(list: &[u16], at: usize) -> u16
         return list[at];
     }
     0
+}
+
+// The list with this entry so; past its end nothing is written.
+pub(crate) fn put_byte(list: &mut [u8], at: usize, value: u8)
+    ensures { λ _. ⌜ now (list .exit) ≡ set (now (list .entry)) at value ⌝ }
+{
+    if at < list.len() {
+        list[at] = value;
+    }
+}
+
+pub(crate) fn put_word(list: &mut [u16], at: usize, value: u16)
+    ensures { λ _. ⌜ now (list .exit) ≡ set (now (list .entry)) at value ⌝ }
+{
+    if at < list.len() {
+        list[at] = value;
+    }
 }

@@ -1,9 +1,10 @@
 // The record: the tables of a site, where each person is, and the phase, the person and the
 // countdown of each door.
 ghost use mathlib.Core.Path.{_≡_};
-ghost use Prim.Native.Nat.{_<_};
-ghost use Rattle.rules.specs.Tables.{mostPeople, mostDoors};
-ghost use Rattle.record.specs.Doors.{door, freeDoor, freshRecord, doorOf, putDoor, putAt};
+ghost use Rattle.record.specs.Doors.{door, freeDoor, doorIn, freshRecord};
+ghost use Rattle.record.specs.Deeds.{holding};
+use crate::lists::byte_at;
+use crate::lists::word_at;
 use crate::phase::Phase;
 
 // The most people, locations and doors that a record has room for, and the rights of them all.
@@ -32,6 +33,22 @@ impl Door {
             holder,
             count,
         }
+    }
+
+    // What these lists keep of a door.
+    pub(crate) fn among<'a>(
+        phase: &'a [u8],
+        holder: &'a [u16],
+        count: &'a [u16],
+        door: usize,
+    ) -> Self
+        ensures { λ r. ⌜ r ≡ doorIn (now (phase .entry)) (now (holder .entry)) (now (count .entry)) door ⌝ }
+    {
+        Door::new(
+            byte_at(phase, door),
+            word_at(holder, door),
+            word_at(count, door),
+        )
     }
 
     // A door at which nobody has shown a card.
@@ -91,31 +108,20 @@ impl Record {
         }
     }
 
-    // What the record keeps of this door.
-    pub(crate) fn at_door(self, door: usize) -> Door
-        requires { ⌜ door < mostDoors ⌝ }
-        ensures { λ r. ⌜ r ≡ doorOf self door ⌝ }
+    // The record with these places and doors, its tables as they were.
+    pub(crate) fn holding(
+        mut self,
+        place: [u8; MOST_PEOPLE],
+        phase: [u8; MOST_DOORS],
+        holder: [u16; MOST_DOORS],
+        count: [u16; MOST_DOORS],
+    ) -> Record
+        ensures { λ r. ⌜ r ≡ holding self place phase holder count ⌝ }
     {
-        Door::new(self.phase[door], self.holder[door], self.count[door])
-    }
-
-    // The record with this door so.
-    pub(crate) fn put_door(mut self, door: usize, so: Door) -> Record
-        requires { ⌜ door < mostDoors ⌝ }
-        ensures { λ r. ⌜ r ≡ putDoor self door so ⌝ }
-    {
-        self.phase[door] = so.phase;
-        self.holder[door] = so.holder;
-        self.count[door] = so.count;
-        self
-    }
-
-    // The record with this person there.
-    pub(crate) fn put_at(mut self, person: usize, location: u8) -> Record
-        requires { ⌜ person < mostPeople ⌝ }
-        ensures { λ r. ⌜ r ≡ putAt self person location ⌝ }
-    {
-        self.place[person] = location;
+        self.place = place;
+        self.phase = phase;
+        self.holder = holder;
+        self.count = count;
         self
     }
 }

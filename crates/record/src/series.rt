@@ -10,6 +10,8 @@ ghost use Rattle.record.specs.Run.{roomFor, runOf, answersOf, phasesOf, 
 use crate::lists::word_at;
 use crate::record::Record;
 use crate::steps::Answer;
+use crate::steps::carry_out;
+use crate::steps::judge;
 use crate::table::Kind;
 
 // What a run hands back: the last record, and how the run as a whole ended.
@@ -63,22 +65,35 @@ impl Record {
         ensures phases { λ _. ⌜ now (phases .exit) ≡ sets (now (phases .entry)) 0 (toldOf phaseTold self (rowsOf (now (steps .entry)) (now (doors .entry)) (now (persons .entry)))) ⌝ }
         ensures reasons { λ _. ⌜ now (reasons .exit) ≡ sets (now (reasons .entry)) 0 (toldOf reasonTold self (rowsOf (now (steps .entry)) (now (doors .entry)) (now (persons .entry)))) ⌝ }
     {
-        let mut next = self;
+        let mut place = self.place;
+        let mut phase = self.phase;
+        let mut holder = self.holder;
+        let mut count = self.count;
         let mut at = 0;
         while at < steps.len() {
-            let kind = Kind::of(steps[at]);
             let door = word_at(doors, at) as usize;
-            let person = word_at(persons, at) as usize;
-            let told = next.sound_step(kind, door, person);
+            let deed = judge(
+                self.people,
+                self.doors,
+                &self.origin,
+                &self.destination,
+                &self.right,
+                &place,
+                &phase,
+                &holder,
+                &count,
+                Kind::of(steps[at]),
+                door,
+                word_at(persons, at) as usize,
+            );
+            let told = carry_out(deed, door, &mut place, &mut phase, &mut holder, &mut count);
             let answer = told.answer;
             answers[at] = answer.number();
             phases[at] = told.phase;
             reasons[at] = told.reason;
-            let after = told.next;
-            next = after;
             at += 1;
         }
-        next
+        self.holding(place, phase, holder, count)
     }
 
     // Runs a list of steps: the number of each step, its door and its person are lent, and the

@@ -145,11 +145,7 @@ fn door_fits<'a>(
 ) -> bool
     ensures { λ r. ⌜ r ≡ doorFits people doors (now (phase .entry)) (now (holder .entry)) (now (count .entry)) door ⌝ }
 {
-    let so = Door {
-        phase: byte_at(phase, door),
-        holder: word_at(holder, door),
-        count: word_at(count, door),
-    };
+    let so = Door::among(phase, holder, count, door);
     if door < doors {
         return fields_fit(people, so);
     }

@@ -1,18 +1,24 @@
 // The ten steps, by value: each takes a record and hands the next record back with its answer, the
 // door's phase afterwards and the reason.
 ghost use mathlib.Core.Path.{_≡_};
-ghost use Prim.Native.Nat.{_<_};
-ghost use lib.ListN.{getD};
-ghost use Rattle.rules.specs.Tables.{mostPeople, mostDoors};
-ghost use Rattle.record.specs.Sound.{Sound};
+ghost use Prim.Native.Nat.{ℕ, _<_};
+ghost use mathlib.Core.Bool.{true};
+ghost use lib.ListN.{getD, set};
+ghost use Rattle.rules.specs.Tables.{mostPeople};
 ghost use Rattle.record.specs.Answers.{numberOf};
-ghost use Rattle.record.specs.Steps.{reasonFor, exist, refused, stays, turns, moves, burns, effect, act, doing, Ready};
-ghost use Rattle.record.specs.Steps.{soundStep, stepOf};
-ghost use Rattle.record.specs.Kinds.{kindOf};
+ghost use Rattle.record.specs.Doors.{doorOf};
+ghost use Rattle.record.specs.Kinds.{kindOf, namesPerson};
+ghost use Rattle.record.specs.Steps.{exist, refused, burns, effect, act, stepOf};
+ghost use Rattle.record.specs.Deeds.{holding, telling, carried, Asked, Known, Judged};
 use crate::grants::has_grant;
+use crate::lists::byte_at;
+use crate::lists::put_byte;
+use crate::lists::put_word;
 use crate::phase::Phase;
 use crate::phase::Span;
 use crate::record::Door;
+use crate::record::MOST_DOORS;
+use crate::record::MOST_PEOPLE;
 use crate::record::Record;
 use crate::table::Kind;
 
@@ -64,27 +70,218 @@ pub struct Step {
     pub reason: u8,
 }
 
-impl Record {
-    // The first reason to deny this person this door.
-    fn reason(self, door: usize, person: usize) -> u8
-        requires { ⌜ (door < mostDoors) × (person < mostPeople) ⌝ }
-        ensures { λ r. ⌜ r ≡ reasonFor self door person ⌝ }
-    {
-        let there = self.place[person];
-        let from = self.origin[door];
-        if there != from {
-            return Reason::NOT_THERE;
-        }
-        let to = self.destination[door] as usize;
-        if !rules::may_be(&self.right, person, to) {
-            return Reason::NO_RIGHT;
-        }
-        if has_grant(self.doors, &self.phase, &self.holder, person) {
-            return Reason::HAS_GRANT;
-        }
-        Reason::NONE
-    }
+// What a step tells.
+pub(crate) struct Told {
+    pub answer: Answer,
+    pub phase: u8,
+    pub reason: u8,
+}
 
+// What a step does: nothing, with the answer and the phase that it tells; its door becomes so, with
+// the reason that it tells; or its door becomes so, and this person is in this location.
+pub(crate) enum Deed {
+    Stays(Answer, u8),
+    Turns(Door, u8),
+    Moves(Door, usize, u8),
+}
+
+// The first reason to deny this person this door, which only `decide` asks for.
+fn reason_for<'a>(
+    kind: Kind,
+    doors: usize,
+    origin: &'a [u8],
+    destination: &'a [u8],
+    right: &'a [bool],
+    place: &'a [u8],
+    phase: &'a [u8],
+    holder: &'a [u16],
+    door: usize,
+    person: usize,
+) -> u8
+    ensures { λ r. ⌜ Asked kind doors (now (origin .entry)) (now (destination .entry)) (now (right .entry)) (now (place .entry)) (now (phase .entry)) (now (holder .entry)) door person r ⌝ }
+{
+    let Kind::Decide = kind else {
+        return Reason::NONE;
+    };
+    if byte_at(place, person) != byte_at(origin, door) {
+        return Reason::NOT_THERE;
+    }
+    if !rules::may_be(right, person, byte_at(destination, door) as usize) {
+        return Reason::NO_RIGHT;
+    }
+    if has_grant(doors, phase, holder, person) {
+        return Reason::HAS_GRANT;
+    }
+    Reason::NONE
+}
+
+// `decide`: granted, or denied with the first reason that applies.
+fn decided(now: Door, why: u8) -> Deed
+    ensures { λ r. ⌜ ((t : Record) (d : ℕ) → carried t d r ≡ act t d (effect Kind.Decide 0 why now)) ⌝ }
+{
+    if why == Reason::NONE {
+        return Deed::Turns(Door::new(Phase::GRANTED, now.holder, 0), Reason::NONE);
+    }
+    Deed::Turns(Door::new(Phase::DENIED, 0, 0), why)
+}
+
+// A tick of a light that burns: its countdown falls, and on reaching 0 the phase becomes `out`.
+fn burnt(now: Door, out: u8) -> Deed
+    ensures { λ r. ⌜ ((t : Record) (d : ℕ) → carried t d r ≡ act t d (burns now out)) ⌝ }
+{
+    let holder = now.holder;
+    let count = now.count;
+    if 1 < count {
+        return Deed::Turns(Door::new(now.phase, holder, count - 1), Reason::NONE);
+    }
+    Deed::Turns(Door::new(out, holder, 0), Reason::NONE)
+}
+
+// `tick`: a light burns down, and all else stays as it is.
+fn ticked(now: Door) -> Deed
+    ensures { λ r. ⌜ ((t : Record) (d : ℕ) → doorOf t d ≡ now → carried t d r ≡ act t d (effect Kind.Tick 0 0 now)) ⌝ }
+{
+    let phase = now.phase;
+    match phase {
+        Phase::GREEN => burnt(now, Phase::EXPIRED),
+        Phase::RED => burnt(now, Phase::DIMMED),
+        _ => Deed::Stays(Answer::Done, phase),
+    }
+}
+
+// What a step that may be done does at a door that is so now and leads to this location; `why` is
+// the reason to deny.
+fn done(kind: Kind, person: usize, why: u8, now: Door, to: u8) -> Deed
+    requires { ⌜ (namesPerson kind ≡ true → person < mostPeople) ⌝ }
+    ensures { λ r. ⌜ ((t : Record) (d : ℕ) → doorOf t d ≡ now → getD (t .destination) d 0 ≡ to → carried t d r ≡ act t d (effect kind person why now)) ⌝ }
+{
+    let holder = now.holder;
+    match kind {
+        Kind::Card => Deed::Turns(Door::new(Phase::READ, person as u16, 0), Reason::NONE),
+        Kind::Decide => decided(now, why),
+        Kind::Green => Deed::Turns(Door::new(Phase::GREEN, holder, Span::GREEN), Reason::NONE),
+        Kind::Red => Deed::Turns(Door::new(Phase::RED, holder, Span::RED), Reason::NONE),
+        Kind::Walk => Deed::Turns(Door::new(Phase::WALKED, holder, 0), Reason::NONE),
+        Kind::Tick => ticked(now),
+        Kind::Passed => Deed::Moves(Door::new(Phase::CLOSED, 0, 0), holder as usize, to),
+        Kind::Lapsed => Deed::Turns(Door::new(Phase::CLOSED, 0, 0), Reason::NONE),
+        Kind::Dark => Deed::Turns(Door::new(Phase::CLOSED, holder, 0), Reason::NONE),
+        Kind::Ack => Deed::Turns(Door::free(), Reason::NONE),
+        Kind::Unknown => Deed::Stays(Answer::Done, now.phase),
+    }
+}
+
+// Do the door and, of a card, the person exist?
+fn exist(people: usize, doors: usize, kind: Kind, door: usize, person: usize) -> bool
+    ensures { λ r. ⌜ ((t : Record) → t .people ≡ people → t .doors ≡ doors → r ≡ exist t kind door person) ⌝ }
+{
+    if doors <= door {
+        return false;
+    }
+    if !kind.names_person() {
+        return true;
+    }
+    person < people
+}
+
+// A step's deed, on the lists of a record that is sound: 11, then 12, then the step's own work.
+pub(crate) fn judge<'a>(
+    people: usize,
+    doors: usize,
+    origin: &'a [u8],
+    destination: &'a [u8],
+    right: &'a [bool],
+    place: &'a [u8],
+    phase: &'a [u8],
+    holder: &'a [u16],
+    count: &'a [u16],
+    kind: Kind,
+    door: usize,
+    person: usize,
+) -> Deed
+    requires { ⌜ Known people (now phase) ⌝ }
+    ensures { λ r. ⌜ Judged people doors (now (origin .entry)) (now (destination .entry)) (now (right .entry)) (now (place .entry)) (now (phase .entry)) (now (holder .entry)) (now (count .entry)) kind door person r ⌝ }
+{
+    if !exist(people, doors, kind, door, person) {
+        return Deed::Stays(Answer::NoSuch, UNTOLD);
+    }
+    let now = Door::among(phase, holder, count, door);
+    if !kind.allowed_in(now.phase) {
+        return Deed::Stays(Answer::NotAllowed, now.phase);
+    }
+    let held = now.holder as usize;
+    let why = reason_for(
+        kind,
+        doors,
+        origin,
+        destination,
+        right,
+        place,
+        phase,
+        holder,
+        door,
+        held,
+    );
+    done(kind, person, why, now, byte_at(destination, door))
+}
+
+// The lists with this door so.
+fn put_door<'a>(
+    door: usize,
+    so: Door,
+    phase: &'a mut [u8; MOST_DOORS],
+    holder: &'a mut [u16; MOST_DOORS],
+    count: &'a mut [u16; MOST_DOORS],
+)
+    ensures phases { λ _. ⌜ now (phase .exit) ≡ set (now (phase .entry)) door (so .phase) ⌝ }
+    ensures holders { λ _. ⌜ now (holder .exit) ≡ set (now (holder .entry)) door (so .holder) ⌝ }
+    ensures counts { λ _. ⌜ now (count .exit) ≡ set (now (count .entry)) door (so .count) ⌝ }
+{
+    put_byte(phase, door, so.phase);
+    put_word(holder, door, so.holder);
+    put_word(count, door, so.count);
+}
+
+// Carries a deed out: the lists hold what they hold after the step.
+pub(crate) fn carry_out<'a>(
+    deed: Deed,
+    door: usize,
+    place: &'a mut [u8; MOST_PEOPLE],
+    phase: &'a mut [u8; MOST_DOORS],
+    holder: &'a mut [u16; MOST_DOORS],
+    count: &'a mut [u16; MOST_DOORS],
+) -> Told
+    ensures { λ r. ⌜ ((t : Record) → telling (holding t (now (place .exit)) (now (phase .exit)) (now (holder .exit)) (now (count .exit))) r ≡ carried (holding t (now (place .entry)) (now (phase .entry)) (now (holder .entry)) (now (count .entry))) door deed) ⌝ }
+{
+    match deed {
+        Deed::Stays(answer, so) => {
+            Told {
+                answer,
+                phase: so,
+                reason: Reason::NONE,
+            }
+        }
+        Deed::Turns(so, reason) => {
+            put_door(door, so, phase, holder, count);
+            Told {
+                answer: Answer::Done,
+                phase: so.phase,
+                reason,
+            }
+        }
+        Deed::Moves(so, person, to) => {
+            put_byte(place, person, to);
+            put_door(door, so, phase, holder, count);
+            Told {
+                answer: Answer::Done,
+                phase: so.phase,
+                reason: Reason::NONE,
+            }
+        }
+    }
+}
+
+impl Record {
     // A refusal: the same record.
     fn refused(self, answer: Answer, phase: u8) -> Step
         ensures { λ r. ⌜ r ≡ refused self answer phase ⌝ }
@@ -97,154 +294,40 @@ impl Record {
         }
     }
 
-    // Done, with nothing altered.
-    fn stayed(self, door: usize) -> Step
-        requires { ⌜ door < mostDoors ⌝ }
-        ensures { λ r. ⌜ r ≡ act self door stays ⌝ }
-    {
-        let phase = self.phase[door];
-        Step {
-            next: self,
-            answer: Answer::Done,
-            phase,
-            reason: Reason::NONE,
-        }
-    }
-
-    // Done, and the door is so now.
-    fn turned(self, door: usize, so: Door, reason: u8) -> Step
-        requires { ⌜ door < mostDoors ⌝ }
-        ensures { λ r. ⌜ r ≡ act self door (turns so reason) ⌝ }
-    {
-        let next = self.put_door(door, so);
-        Step {
-            next,
-            answer: Answer::Done,
-            phase: so.phase,
-            reason,
-        }
-    }
-
-    // Done: the door is so now, and the person whom it held is in its destination.
-    fn moved(self, door: usize, so: Door) -> Step
-        requires { ⌜ (door < mostDoors) × (getD (self .holder) door 0 < mostPeople) ⌝ }
-        ensures { λ r. ⌜ r ≡ act self door (moves so) ⌝ }
-    {
-        let person = self.holder[door] as usize;
-        let to = self.destination[door];
-        let next = self.put_door(door, so).put_at(person, to);
-        Step {
-            next,
-            answer: Answer::Done,
-            phase: so.phase,
-            reason: Reason::NONE,
-        }
-    }
-
-    // `decide`: granted, or denied with the first reason that applies.
-    fn decided(self, door: usize, now: Door) -> Step
-        requires { ⌜ (door < mostDoors) × (now .holder < mostPeople) ⌝ }
-        ensures { λ r. ⌜ r ≡ act self door (effect Kind.Decide 0 (reasonFor self door (now .holder)) now) ⌝ }
-    {
-        let holder = now.holder;
-        let why = self.reason(door, holder as usize);
-        if why == Reason::NONE {
-            return self.turned(door, Door::new(Phase::GRANTED, holder, 0), Reason::NONE);
-        }
-        self.turned(door, Door::new(Phase::DENIED, 0, 0), why)
-    }
-
-    // A tick of a light that burns: its countdown falls, and on reaching 0 the phase becomes `out`.
-    fn burnt(self, door: usize, now: Door, out: u8) -> Step
-        requires { ⌜ door < mostDoors ⌝ }
-        ensures { λ r. ⌜ r ≡ act self door (burns now out) ⌝ }
-    {
-        let phase = now.phase;
-        let holder = now.holder;
-        let count = now.count;
-        if 1 < count {
-            return self.turned(door, Door::new(phase, holder, count - 1), Reason::NONE);
-        }
-        self.turned(door, Door::new(out, holder, 0), Reason::NONE)
-    }
-
-    // `tick`: a light burns down, and all else stays as it is.
-    fn ticked(self, door: usize, now: Door) -> Step
-        requires { ⌜ (door < mostDoors) × (now .phase ≡ getD (self .phase) door 0) ⌝ }
-        ensures { λ r. ⌜ r ≡ act self door (effect Kind.Tick 0 0 now) ⌝ }
-    {
-        let phase = now.phase;
-        match phase {
-            Phase::GREEN => self.burnt(door, now, Phase::EXPIRED),
-            Phase::RED => self.burnt(door, now, Phase::DIMMED),
-            _ => self.stayed(door),
-        }
-    }
-
-    // What a step that may be done does.
-    fn done(self, kind: Kind, door: usize, person: usize) -> Step
-        requires { ⌜ Ready self kind door person ⌝ }
-        ensures { λ r. ⌜ r ≡ act self door (doing self kind door person) ⌝ }
-    {
-        let now = self.at_door(door);
-        let holder = now.holder;
-        match kind {
-            Kind::Card => self.turned(door, Door::new(Phase::READ, person as u16, 0), Reason::NONE),
-            Kind::Decide => self.decided(door, now),
-            Kind::Green => {
-                self.turned(
-                    door,
-                    Door::new(Phase::GREEN, holder, Span::GREEN),
-                    Reason::NONE,
-                )
-            }
-            Kind::Red => self.turned(door, Door::new(Phase::RED, holder, Span::RED), Reason::NONE),
-            Kind::Walk => self.turned(door, Door::new(Phase::WALKED, holder, 0), Reason::NONE),
-            Kind::Tick => self.ticked(door, now),
-            Kind::Passed => self.moved(door, Door::new(Phase::CLOSED, 0, 0)),
-            Kind::Lapsed => self.turned(door, Door::new(Phase::CLOSED, 0, 0), Reason::NONE),
-            Kind::Dark => self.turned(door, Door::new(Phase::CLOSED, holder, 0), Reason::NONE),
-            Kind::Ack => self.turned(door, Door::free(), Reason::NONE),
-            Kind::Unknown => self.stayed(door),
-        }
-    }
-
-    // Do the door and, of a card, the person exist?
-    fn exist(self, kind: Kind, door: usize, person: usize) -> bool
-        ensures { λ r. ⌜ r ≡ exist self kind door person ⌝ }
-    {
-        if self.doors <= door {
-            return false;
-        }
-        if !kind.names_person() {
-            return true;
-        }
-        person < self.people
-    }
-
-    // A step of a record that is sound: 11, then 12, then the step's own work.
-    pub(crate) fn sound_step(self, kind: Kind, door: usize, person: usize) -> Step
-        requires { ⌜ Sound self ⌝ }
-        ensures { λ r. ⌜ r ≡ soundStep self kind door person ⌝ }
-    {
-        if !self.exist(kind, door, person) {
-            return self.refused(Answer::NoSuch, UNTOLD);
-        }
-        let phase = self.phase[door];
-        if !kind.allowed_in(phase) {
-            return self.refused(Answer::NotAllowed, phase);
-        }
-        self.done(kind, door, person)
-    }
-
-    // A step: 14, and then as above.
+    // A step: 14, then as it is judged and carried out.
     pub fn step(self, kind: Kind, door: usize, person: usize) -> Step
         ensures { λ r. ⌜ r ≡ stepOf self kind door person ⌝ }
     {
         if !self.is_sound() {
             return self.refused(Answer::Unsound, UNTOLD);
         }
-        self.sound_step(kind, door, person)
+        let mut place = self.place;
+        let mut phase = self.phase;
+        let mut holder = self.holder;
+        let mut count = self.count;
+        let deed = judge(
+            self.people,
+            self.doors,
+            &self.origin,
+            &self.destination,
+            &self.right,
+            &place,
+            &phase,
+            &holder,
+            &count,
+            kind,
+            door,
+            person,
+        );
+        let told = carry_out(deed, door, &mut place, &mut phase, &mut holder, &mut count);
+        let answer = told.answer;
+        let next = self.holding(place, phase, holder, count);
+        Step {
+            next,
+            answer,
+            phase: told.phase,
+            reason: told.reason,
+        }
     }
 
     // A step by its number.

@@ -10,8 +10,9 @@ use mathlib.Core.List.{List, [], _∷_}
 use lib.ListN.{length, getD, drop, drop-of-length-le}
 use lib.Dec.{ltb, eqb}
 use borrow.Author.Tests.{ltb-true, ltb-false, le-ltb, eqb-true, eqb-false, eq-eqb, ne-eqb}
+use Rattle.sheet.specs.declared.cut.Cell.{Cell}
 use Rattle.sheet.specs.declared.say.Number.the-variants.{Is, None}
-use Rattle.sheet.specs.Say.{width, Digit, valueFrom, ProperNumber, sameBytes, digitsFrom, needlessZero, numberOf}
+use Rattle.sheet.specs.Say.{width, Digit, valueFrom, ProperNumber, sameBytes, digitsFrom, needlessZero, numberOf, numberAt}
 use Rattle.sheet.proofs.Steps.{here}
 
 -- ---- two lists of bytes
@@ -109,7 +110,7 @@ digits-start c = record { answer = refl; small = omega arith; within = omega ari
 
 -- ---- proper numbers
 
-clash : {n : ℕ} {A : Type 0} → None ≡ Is n → A
+pub clash : {n : ℕ} {A : Type 0} → None ≡ Is n → A
 clash e = let z : _≡_ {A = ℕ} 0 1 = cc in absurd (omega arith)
 
 abbrev AllDigits : List ℕ → Type 0
@@ -187,3 +188,33 @@ read-proper c {n} e = go₁ (eqb (length c) 0) refl
     go₁ : (q : Bool) → eqb (length c) 0 ≡ q → ProperNumber c n
     go₁ true q = clash (rw q at e)
     go₁ false q = go₂ (ltb width (length c)) q refl
+
+-- a proper number is below 1,000
+proper-small : (c : List ℕ) (n : ℕ) → ProperNumber c n → n < 1000
+unfolding valueFrom
+proper-small [] n p = let s = p .some in absurd (omega arith)
+proper-small (a ∷ []) n p =
+    let x = p .digits 0 (omega arith) .to in
+    let v = p .value in
+    omega arith
+proper-small (a ∷ b ∷ []) n p =
+    let x = p .digits 0 (omega arith) .to in
+    let y = p .digits 1 (omega arith) .to in
+    let v = p .value in
+    omega arith
+proper-small (a ∷ b ∷ d ∷ []) n p =
+    let x = p .digits 0 (omega arith) .to in
+    let y = p .digits 1 (omega arith) .to in
+    let z = p .digits 2 (omega arith) .to in
+    let v = p .value in
+    omega arith
+proper-small (a ∷ b ∷ d ∷ e ∷ more) n p = let f = p .few in absurd (omega arith)
+
+-- a field that is a number is one below 1,000
+pub number-small : (s : List ℕ) (cell : Cell) {n : ℕ} → numberAt s cell ≡ Is n → n < 1000
+unfolding numberAt
+number-small s cell {n} e = go (cell .doubled) refl
+  where
+    go : (q : Bool) → cell .doubled ≡ q → n < 1000
+    go true q = clash (rw q at e)
+    go false q = proper-small _ n (read-proper _ (rw q at e))

@@ -5,38 +5,28 @@ use borrow.Author.Needs.{needs}
 use Rattle.record.proofs.sound.door_fits.Statement.{statement}
 use Rattle.record.proofs.sound.door_fits.Tie as tie
 
-byte-at-requires : tie.Need-byte-at-requires
-byte-at-requires c κs = search needs
-
-word-at-requires : tie.Need-word-at-requires
-word-at-requires c κs = search needs
-
-word-at-requires-2 : tie.Need-word-at-requires-2
-word-at-requires-2 c κs = search needs
+among-requires : tie.Need-among-requires
+among-requires c κs = search needs
 
 fields-fit-requires : tie.Need-fields-fit-requires
 fields-fit-requires c κs = search needs
 
 returns : tie.Need-returns
 unfolding doorFits
-returns c =
-    simp (lt-ltb _ _ (c .before .if1 .taken), ← (c .before .before .before .before .byte-at .ensures), ← (c .before .before .before .word-at .ensures), ← (c .before .before .word-at2 .ensures), c .fields-fit .ensures)
+returns c = simp (lt-ltb _ _ (c .before .if1 .taken), ← (c .before .before .among .ensures), c .fields-fit .ensures)
 
 is-free-requires : tie.Need-is-free-requires
 is-free-requires c κs = search needs
 
 returns-2 : tie.Need-returns-2
 unfolding doorFits
-returns-2 c =
-    simp (le-ltb _ _ (c .before .if1 .left), ← (c .before .before .before .before .byte-at .ensures), ← (c .before .before .before .word-at .ensures), ← (c .before .before .word-at2 .ensures), c .is-free .ensures)
+returns-2 c = simp (le-ltb _ _ (c .before .if1 .left), ← (c .before .before .among .ensures), c .is-free .ensures)
 
 pub door-fits-spec : {M : Type 1} → statement M
 door-fits-spec =
     tie.close
     (tie.spec
-    byte-at-requires
-    word-at-requires
-    word-at-requires-2
+    among-requires
     fields-fit-requires
     returns
     is-free-requires

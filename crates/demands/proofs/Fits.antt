@@ -1,0 +1,188 @@
+-- Every text that the two programs print fits into the list that they lend: a sheet has at most 6,144 steps, and what is told of a
+-- step is short. Assumes nothing.
+use Prim.Native.Nat.{ℕ, zero, suc, _+_, _-_, _*_, _≤_, _<_}
+use mathlib.Core.Path.{_≡_, refl, ap}
+use mathlib.Core.Bool.{Bool, true, false}
+use mathlib.Core.List.{List, [], _∷_}
+use native.Mathlib.Omega.{arith}
+use borrow.Author.Tests.{ltb-true, ltb-false}
+use lib.Dec.{eqb, ltb}
+use lib.ListN.{length, getD, length-append}
+use Rattle.rules.specs.Tables.{mayBe}
+use Rattle.sheet.specs.Cut.{cutRow}
+use Rattle.sheet.specs.Rows.{readRows, rowsFrom, onRow}
+use Rattle.sheet.specs.declared.cut.RowCut.{RowCut}
+use Rattle.sheet.specs.declared.cut.RowCut.the-variants.{Cut, NoRow, Broken}
+use Rattle.sheet.specs.declared.cut.Cells.{Cells}
+use Rattle.record.specs.declared.record.Record.{Record}
+use Rattle.record.specs.declared.record.Door.{Door}
+use Rattle.record.specs.declared.table.Kind.{Kind}
+use Rattle.record.specs.declared.table.Kind.the-variants.{Card, Decide, Green, Red, Walk, Tick, Passed, Lapsed, Dark, Ack, Unknown}
+use Rattle.record.specs.declared.steps.Answer.{Answer}
+use Rattle.record.specs.declared.steps.Answer.the-variants.{Done, NoSuch, NotAllowed, TooShort, Unsound}
+use Rattle.record.specs.declared.steps.Step.{Step}
+use Rattle.record.specs.Answers.{numberOf}
+use Rattle.record.specs.Doors.{doorOf, Shaped}
+use Rattle.record.specs.Kinds.{allows}
+use Rattle.record.specs.Phase.{green, expired, red, dimmed}
+use Rattle.record.specs.Sound.{Sound}
+use Rattle.record.specs.SoundTest.{soundB}
+use Rattle.record.specs.Grants.{hasGrant}
+use Rattle.record.specs.Steps.{reasonFor, Does, stays, turns, moves, burns, effect, act, exist, soundStep, stepOf}
+use Rattle.record.specs.Run.{Row, rowOf, toldOf, answerTold, phaseTold, reasonTold}
+use Rattle.record.proofs.Cases.{either}
+use Rattle.record.proofs.Laws.{sound-stays, shaped-stays}
+use Rattle.run.specs.declared.steps.Line.{Line}
+use Rattle.run.specs.declared.steps.Line.the-variants as line
+use Rattle.run.specs.Steps.{lineAt, before, stepsIn, stepsFrom}
+use Rattle.run.specs.Text.{rowText}
+use Rattle.run.specs.Printed.{panelRow, answerRows, placeRows}
+use Rattle.run.proofs.Writing.{one-digit, two-digits, four-digits, last-length, more-length}
+use Rattle.run.proofs.Decoding.{Takes, step-takes}
+
+-- ---- a sheet has at most 6,144 steps
+
+-- a step's row leaves that much less for those behind it
+taken : {s : List ℕ} {at next : ℕ} (n : ℕ) (q : Bool) → ltb next (length s) ≡ q → Takes s at next → 8 * n ≤ length s + 2 - next → 8 * suc n ≤ length s + 2 - at
+taken {s} {at} {next} n true q t h =
+    let eight = t .eight (ltb-true next (length s) q) in
+    omega arith
+taken {s} {at} {next} n false q t h =
+    let six = t .six in
+    let end = ltb-false next (length s) q in
+    omega arith
+
+few : (most : ℕ) (s : List ℕ) (at : ℕ) → 8 * length (stepsIn s (readRows most s at) .kinds) ≤ length s + 2 - at
+unfolding readRows stepsIn
+few zero s at = omega arith
+few (suc most) s at = go (cutRow s at) refl (few most s)
+  where
+    step : (cells : Cells) (next : ℕ) → cutRow s at ≡ Cut cells next → (said : Line) → lineAt s cells ≡ said
+        → 8 * length (stepsIn s (readRows most s next) .kinds) ≤ length s + 2 - next
+        → 8 * length (before said (stepsIn s (readRows most s next)) .kinds) ≤ length s + 2 - at
+    step cells next e line.Bad l h = omega arith
+    step cells next e (line.Step k d p) l h =
+        taken _ (ltb next (length s)) refl (step-takes s at e l) h
+
+    go : (cut : RowCut) → cutRow s at ≡ cut → ((next : ℕ) → 8 * length (stepsIn s (readRows most s next) .kinds) ≤ length s + 2 - next)
+        → 8 * length (stepsIn s (onRow cut (λ next. readRows most s next)) .kinds) ≤ length s + 2 - at
+    go (Cut cells next) e h = step cells next e (lineAt s cells) refl (h next)
+    go NoRow e h = omega arith
+    go (Broken byte) e h = omega arith
+
+pub steps-few : (s : List ℕ) (from : ℕ) → 8 * length (stepsFrom s from .kinds) ≤ length s + 2 - from
+unfolding rowsFrom
+steps-few s from = few _ s from
+
+-- ---- what is told of a step is short
+
+abbrev Small : Does → Type 0
+Small stays = 0 ≤ 9
+Small (turns c why) = (c .phase ≤ 9) × (why ≤ 3)
+Small (moves c) = c .phase ≤ 9
+
+effect-small : (k : Kind) (p why : ℕ) (c : Door) → why ≤ 3 → c .phase ≤ 9 → Small (effect k p why c)
+unfolding effect
+effect-small Card p why c w h = (omega arith, omega arith)
+effect-small Decide p why c w h = either Small (eqb why 0) (λ _. (omega arith, omega arith)) (λ _. (omega arith, w))
+effect-small Green p why c w h = (omega arith, omega arith)
+effect-small Red p why c w h = (omega arith, omega arith)
+effect-small Walk p why c w h = (omega arith, omega arith)
+effect-small Tick p why c w h =
+    let burning : (out : ℕ) → out ≤ 9 → Small (burns c out) = λ out o. either Small (ltb 1 (c .count)) (λ _. (h, omega arith)) (λ _. (o, omega arith)) in
+    either Small (eqb (c .phase) green) (λ _. burning expired (omega arith))
+    (λ _. either Small (eqb (c .phase) red) (λ _. burning dimmed (omega arith)) (λ _. omega arith))
+effect-small Passed p why c w h = omega arith
+effect-small Lapsed p why c w h = (omega arith, omega arith)
+effect-small Dark p why c w h = (omega arith, omega arith)
+effect-small Ack p why c w h = (omega arith, omega arith)
+effect-small Unknown p why c w h = omega arith
+
+reason-small : (r : Record) (d p : ℕ) → reasonFor r d p ≤ 3
+unfolding reasonFor
+reason-small r d p =
+    either (λ (n : ℕ). n ≤ 3) (eqb (getD (r .place) p 0) (getD (r .origin) d 0))
+    (λ _. either (λ (n : ℕ). n ≤ 3) (mayBe (r .right) p (getD (r .destination) d 0))
+    (λ _. either (λ (n : ℕ). n ≤ 3) (hasGrant (r .doors) (r .phase) (r .holder) p) (λ _. omega arith) (λ _. omega arith)) (λ _. omega arith)) (λ _. omega arith)
+
+-- every door's phase is one of the ten
+phase-known : (r : Record) → Sound r → (d : ℕ) → getD (r .phase) d 0 ≤ 9
+phase-known r s d = go (ltb d (r .doors)) refl
+  where
+    go : (q : Bool) → ltb d (r .doors) ≡ q → getD (r .phase) d 0 ≤ 9
+    go true q = s .doors d (ltb-true d (r .doors) q) .known
+    go false q = let z : getD (r .phase) d 0 ≡ 0 = ap (λ (c : Door). c .phase) (s .zero-doors d (ltb-false d (r .doors) q)) in omega arith
+
+pub record ToldShort (s : Step) : Type 0 where
+  pub phase-short : s .phase ≤ 9
+  pub reason-short : s .reason ≤ 3
+
+act-small : (r : Record) (d : ℕ) (does : Does) → getD (r .phase) d 0 ≤ 9 → Small does → ToldShort (act r d does)
+unfolding act
+act-small r d stays h m = record { phase-short = h; reason-short = omega arith }
+act-small r d (turns c why) h m = record { phase-short = m .0; reason-short = m .1 }
+act-small r d (moves c) h m = record { phase-short = m; reason-short = omega arith }
+
+told-short : (r : Record) → Sound r → (k : Kind) (d p : ℕ) → ToldShort (stepOf r k d p)
+unfolding stepOf soundStep
+told-short r s k d p =
+    either ToldShort (soundB r)
+    (λ _. either ToldShort (exist r k d p)
+    (λ _. either ToldShort (allows k (getD (r .phase) d 0))
+    (λ _. act-small r d _ (phase-known r s d) (effect-small k p _ (doorOf r d) (reason-small r d (getD (r .holder) d 0)) (phase-known r s d)))
+    (λ _. record { phase-short = phase-known r s d; reason-short = omega arith }))
+    (λ _. record { phase-short = omega arith; reason-short = omega arith }))
+    (λ _. record { phase-short = omega arith; reason-short = omega arith })
+
+number-most : (a : Answer) → numberOf a ≤ 14
+number-most Done = omega arith
+number-most NoSuch = omega arith
+number-most NotAllowed = omega arith
+number-most TooShort = omega arith
+number-most Unsound = omega arith
+
+-- ---- the rows of a run
+
+row-short : (n a p r : ℕ) → n < 10000 → a ≤ 14 → p ≤ 9 → r ≤ 3 → length (panelRow n a p r) ≤ 13
+row-short n a p r hn ha hp hr =
+    let x = more-length n a (p ∷ r ∷ []) in
+    let y = more-length a p (r ∷ []) in
+    let z = more-length p r [] in
+    let w = last-length r in
+    let dn = four-digits n hn in
+    let da = two-digits a (omega arith) in
+    let dp = one-digit p (omega arith) in
+    let dr = one-digit r (omega arith) in
+    omega arith
+
+pub rows-short : (r : Record) → Shaped r → Sound r → (rows : List Row) (n : ℕ) → n + length rows ≤ 10000
+    → length (answerRows n (toldOf answerTold r rows) (toldOf phaseTold r rows) (toldOf reasonTold r rows)) ≤ 13 * length rows
+unfolding toldOf answerRows
+rows-short r sh s [] n h = omega arith
+rows-short r sh s (first ∷ rows) n h =
+    let step = rowOf r first in
+    let told = told-short r s (first .kind) (first .at) (first .person) in
+    let one = row-short n (answerTold step) (step .phase) (step .reason) (omega arith) (number-most (step .answer)) (told .phase-short) (told .reason-short) in
+    let rest = rows-short (step .next) (shaped-stays r (first .kind) (first .at) (first .person) sh) (sound-stays r (first .kind) (first .at) (first .person) sh s) rows (n + 1) (omega arith) in
+    let l = length-append (panelRow n (answerTold step) (step .phase) (step .reason)) (answerRows (n + 1) (toldOf answerTold (step .next) rows) (toldOf phaseTold (step .next) rows) (toldOf reasonTold (step .next) rows)) in
+    omega arith
+
+-- ---- the rows of the people
+
+place-short : (n l : ℕ) → n < 100 → l < 100 → length (rowText n (l ∷ [])) ≤ 7
+place-short n l hn hl =
+    let x = more-length n l [] in
+    let y = last-length l in
+    let dn = two-digits n hn in
+    let dl = two-digits l hl in
+    omega arith
+
+pub places-short : (places : List ℕ) (n : ℕ) → n + length places ≤ 100 → ((i : ℕ) → i < length places → getD places i 0 < 100)
+    → length (placeRows n places) ≤ 7 * length places
+unfolding placeRows
+places-short [] n h all = omega arith
+places-short (l ∷ places) n h all =
+    let one = place-short n l (omega arith) (all 0 (omega arith)) in
+    let rest = places-short places (n + 1) (omega arith) (λ i k. all (suc i) (omega arith)) in
+    let a = length-append (rowText n (l ∷ [])) (placeRows (n + 1) places) in
+    omega arith

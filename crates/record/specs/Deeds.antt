@@ -1,0 +1,68 @@
+-- A step as the code does it on lent lists: first what it does, its deed, then the lists with that carried out. What is said here
+-- is said of `soundStep`, for every record that has these lists.
+use Prim.Native.Nat.{ℕ, _≤_}
+use mathlib.Core.Path.{_≡_}
+use mathlib.Core.Bool.{Bool}
+use mathlib.Core.List.{List}
+use lib.ListN.{getD}
+use Rattle.rules.specs.Tables.{mostPeople}
+use Rattle.record.specs.declared.record.Record.{Record}
+use Rattle.record.specs.declared.table.Kind.{Kind}
+use Rattle.record.specs.declared.table.Kind.the-variants.{Decide}
+use Rattle.record.specs.declared.steps.Answer.the-variants.{Done}
+use Rattle.record.specs.declared.steps.Step.{Step}
+use Rattle.record.specs.declared.steps.Told.{Told}
+use Rattle.record.specs.declared.steps.Deed.{Deed}
+use Rattle.record.specs.declared.steps.Deed.the-variants.{Stays, Turns, Moves}
+use Rattle.record.specs.Phase.{closed}
+use Rattle.record.specs.Doors.{putDoor, putAt}
+use Rattle.record.specs.Steps.{reasonFor, turns, act, refused, soundStep}
+
+-- the record of these counts, tables and lists
+abbrev pub recordOf : ℕ → ℕ → ℕ → List ℕ → List ℕ → List ℕ → List Bool → List ℕ → List ℕ → List ℕ → List ℕ → Record
+recordOf people locations doors origin destination exit right place phase holder count =
+    record {
+      people = people;
+      locations = locations;
+      doors = doors;
+      origin = origin;
+      destination = destination;
+      exit = exit;
+      right = right;
+      place = place;
+      phase = phase;
+      holder = holder;
+      count = count;
+    }
+
+-- the record with these places and doors, its tables as they were
+abbrev pub holding : Record → List ℕ → List ℕ → List ℕ → List ℕ → Record
+holding r = recordOf (r .people) (r .locations) (r .doors) (r .origin) (r .destination) (r .exit) (r .right)
+
+-- a step that hands this record back and tells this
+abbrev pub telling : Record → Told → Step
+telling r told = record { next = r; answer = told .answer; phase = told .phase; reason = told .reason }
+
+-- a deed at door d, carried out on a record
+abbrev pub carried : Record → ℕ → Deed → Step
+carried r d (Stays answer phase) = refused r answer phase
+carried r d (Turns c why) = act r d (turns c why)
+carried r d (Moves c p l) = record { next = putAt (putDoor r d c) p l; answer = Done; phase = c .phase; reason = 0 }
+
+-- the reason that `decide` asks for
+abbrev pub Asked : Kind → ℕ → List ℕ → List ℕ → List Bool → List ℕ → List ℕ → List ℕ → ℕ → ℕ → ℕ → Type 0
+Asked k doors origin destination right place phase holder d p why =
+    (people locations : ℕ) (exit count : List ℕ)
+    → k ≡ Decide → why ≡ reasonFor (recordOf people locations doors origin destination exit right place phase holder count) d p
+
+-- what a step asks of the lists: there is room for the people, and every phase is one of the ten
+pub record Known (people : ℕ) (phase : List ℕ) : Type 0 where
+  pub room : people ≤ mostPeople
+  pub phases : (d : ℕ) → getD phase d 0 ≤ closed
+
+-- the deed is what `soundStep` says
+abbrev pub Judged : ℕ → ℕ → List ℕ → List ℕ → List Bool → List ℕ → List ℕ → List ℕ → List ℕ → Kind → ℕ → ℕ → Deed → Type 0
+Judged people doors origin destination right place phase holder count k d p deed =
+    (locations : ℕ) (exit : List ℕ)
+    → carried (recordOf people locations doors origin destination exit right place phase holder count) d deed
+    ≡ soundStep (recordOf people locations doors origin destination exit right place phase holder count) k d p

@@ -1,0 +1,114 @@
+-- `serve` meets its contract: what was decoded is run, and there is room for the answers. Assumes nothing.
+use Prim.Native.Nat.{_≤_}
+use mathlib.Core.Path.{_≡_, sym, ap}
+use native.Mathlib.Omega.{arith}
+use lib.ListN.{length}
+use lib.Seq.{length-take-le}
+use Rattle.record.specs.Run.{answerTold, phaseTold, reasonTold}
+use Rattle.sheet.specs.Rows.{rowsFrom}
+use Rattle.run.specs.declared.steps.Decoded.{Decoded}
+use Rattle.run.specs.Steps.{stepsFrom}
+use Rattle.run.proofs.Serving.{steps-even, decoded-are, ran-steps, told-steps}
+use borrow.Author.Needs.{needs}
+use Rattle.run.proofs.serve.serve.Statement.{statement}
+use Rattle.run.proofs.serve.serve.Tie as tie
+
+slice-aggregate-decode : tie.Need-slice-aggregate-decode
+slice-aggregate-decode c = search needs
+
+slice-aggregate-decode-2 : tie.Need-slice-aggregate-decode-2
+slice-aggregate-decode-2 c = search needs
+
+slice-aggregate-decode-3 : tie.Need-slice-aggregate-decode-3
+slice-aggregate-decode-3 c = search needs
+
+decode-requires : tie.Need-decode-requires
+decode-requires c κs = search needs
+
+array-share-prefix-kinds : tie.Need-array-share-prefix-kinds
+array-share-prefix-kinds c = search needs
+
+slice-aggregate-run : tie.Need-slice-aggregate-run
+slice-aggregate-run c =
+    let few = c .before .before .before .before .decode .ensures .1 .0 in
+    let long : 6144 ≡ length (c .before .before .before .before .decode .last .1 .1 .0) = search needs in
+    sym (length-take-le _ _ (omega arith))
+
+array-share-prefix-doors : tie.Need-array-share-prefix-doors
+array-share-prefix-doors c = search needs
+
+slice-aggregate-run-2 : tie.Need-slice-aggregate-run-2
+slice-aggregate-run-2 c =
+    let few = c .before .before .before .before .before .decode .ensures .1 .0 in
+    let long : 6144 ≡ length (c .before .before .before .before .before .decode .last .1 .1 .1 .0) = search needs in
+    sym (length-take-le _ _ (omega arith))
+
+array-share-prefix-persons : tie.Need-array-share-prefix-persons
+array-share-prefix-persons c = search needs
+
+slice-aggregate-run-3 : tie.Need-slice-aggregate-run-3
+slice-aggregate-run-3 c =
+    let few = c .before .before .before .before .before .before .decode .ensures .1 .0 in
+    let long : 6144 ≡ length (c .before .before .before .before .before .before .decode .last .1 .1 .1 .1 .0) = search needs in
+    sym (length-take-le _ _ (omega arith))
+
+run-requires : tie.Need-run-requires
+run-requires c κs = search needs
+
+same-length : tie.Need-same-length
+same-length c = search needs
+
+same-length-2 : tie.Need-same-length-2
+same-length-2 c = search needs
+
+same-length-3 : tie.Need-same-length-3
+same-length-3 c = search needs
+
+returns : tie.Need-returns
+returns c =
+    let a = c .before .before .before .before .before .before .before .before .before .before .before .before .before .before .before .before .before .before .before .before .before .before .before .before .before .args in
+    let p = c .before .before .before .before .before .before .before .before .before .before .before .before .before .before .before .before .before .before .before .before .before .before .before .before .before .pre in
+    let steps = stepsFrom (a .s .now) (a .from) in
+    let even = steps-even (a .s .now) (rowsFrom (a .s .now) (a .from)) in
+    let d = c .before .before .before .before .before .before .before .before .before .before .before .before .before .before .before .before .before .decode .ensures in
+    let few = d .1 .0 in
+    let count : c .before .before .before .before .before .before .before .before .before .before .before .before .before .before .before .before .before .decode .result .count ≡ length (steps .kinds) = ap (λ (x : Decoded). x .count) (d .0) in
+    let whole : c .before .before .before .before .before .before .before .before .before .before .before .before .before .before .before .before .before .decode .result .whole ≡ steps .whole = ap (λ (x : Decoded). x .whole) (d .0) in
+    let lists = decoded-are steps _ _ _ even (d .0) few few few (d .1 .1 .0) (d .1 .1 .1 .0) (d .1 .1 .1 .1) in
+    let ha : length (steps .kinds) ≤ length (a .answers .now) = omega (arith, p .1 .1 .0) in
+    let hp : length (steps .kinds) ≤ length (a .phases .now) = omega (arith, p .1 .1 .1) in
+    let hr : length (steps .kinds) ≤ length (a .reasons .now) = omega (arith, p .1 .1 .2) in
+    let e = c .before .before .before .before .before .before .before .run .ensures in
+    let next = ran-steps (a .fresh) steps (a .answers .now) (a .phases .now) (a .reasons .now) (p .0) even ha hp hr lists (e .0) in (
+      rw (next, count, whole),
+      (
+        few,
+        (
+          told-steps (a .fresh) steps (a .answers .now) (a .phases .now) (a .reasons .now) (p .0) even ha hp hr answerTold (a .answers .now) lists (e .1 .0),
+          (
+            told-steps (a .fresh) steps (a .answers .now) (a .phases .now) (a .reasons .now) (p .0) even ha hp hr phaseTold (a .phases .now) lists (e .1 .1 .0),
+            told-steps (a .fresh) steps (a .answers .now) (a .phases .now) (a .reasons .now) (p .0) even ha hp hr reasonTold (a .reasons .now) lists (e .1 .1 .1),
+          ),
+        ),
+      ),
+    )
+
+pub serve-spec : {M : Type 1} → statement M
+serve-spec =
+    tie.close
+    (tie.spec
+    slice-aggregate-decode
+    slice-aggregate-decode-2
+    slice-aggregate-decode-3
+    decode-requires
+    array-share-prefix-kinds
+    slice-aggregate-run
+    array-share-prefix-doors
+    slice-aggregate-run-2
+    array-share-prefix-persons
+    slice-aggregate-run-3
+    run-requires
+    same-length
+    same-length-2
+    same-length-3
+    returns)

@@ -1,0 +1,60 @@
+// The steps of a sheet, run on the record of a site.
+ghost use mathlib.Core.Path.{_≡_};
+ghost use mathlib.Core.Bool.{true};
+ghost use Prim.Native.Nat.{_≤_};
+ghost use lib.ListN.{length};
+ghost use lib.Seq.{sets};
+ghost use Rattle.record.specs.SoundTest.{soundB};
+ghost use Rattle.record.specs.Run.{toldOf, answerTold, phaseTold, reasonTold};
+ghost use Rattle.site.specs.Site.{limit};
+ghost use Rattle.run.specs.Steps.{stepsFrom, rowsIn, mostSteps};
+ghost use Rattle.run.specs.Printed.{servedOf};
+use crate::steps::MOST_STEPS;
+use crate::steps::decode;
+use record::record::Record;
+
+// The record after the steps of a sheet, how many there were, and whether the sheet ends behind them.
+pub struct Served {
+    pub next: Record,
+    pub count: usize,
+    pub whole: bool,
+}
+
+// Runs the steps of the rows from a position on.
+pub(crate) fn serve<'a>(
+    fresh: Record,
+    s: &'a [u8],
+    from: usize,
+    answers: &'a mut [u8],
+    phases: &'a mut [u8],
+    reasons: &'a mut [u8],
+) -> Served
+    requires { ⌜ soundB fresh ≡ true ⌝ }
+    requires { ⌜ length (now s) ≤ limit ⌝ }
+    requires { ⌜ (mostSteps ≤ length (now answers)) × (mostSteps ≤ length (now phases)) × (mostSteps ≤ length (now reasons)) ⌝ }
+    ensures served { λ r. ⌜ r ≡ servedOf fresh (stepsFrom (now (s .entry)) from) ⌝ }
+    ensures few { λ r. ⌜ r .count ≤ mostSteps ⌝ }
+    ensures answers { λ _. ⌜ now (answers .exit) ≡ sets (now (answers .entry)) 0 (toldOf answerTold fresh (rowsIn (stepsFrom (now (s .entry)) from))) ⌝ }
+    ensures phases { λ _. ⌜ now (phases .exit) ≡ sets (now (phases .entry)) 0 (toldOf phaseTold fresh (rowsIn (stepsFrom (now (s .entry)) from))) ⌝ }
+    ensures reasons { λ _. ⌜ now (reasons .exit) ≡ sets (now (reasons .entry)) 0 (toldOf reasonTold fresh (rowsIn (stepsFrom (now (s .entry)) from))) ⌝ }
+{
+    let mut kinds = [0u8; MOST_STEPS];
+    let mut doors = [0u16; MOST_STEPS];
+    let mut persons = [0u16; MOST_STEPS];
+    let decoded = decode(s, from, &mut kinds, &mut doors, &mut persons);
+    let count = decoded.count;
+    let ran = fresh.run(
+        &kinds[..count],
+        &doors[..count],
+        &persons[..count],
+        answers,
+        phases,
+        reasons,
+    );
+    let next = ran.next;
+    Served {
+        next,
+        count,
+        whole: decoded.whole,
+    }
+}

@@ -1,0 +1,255 @@
+// The two texts: what `panel` prints and what `where` prints, from the bytes of the two sheets.
+ghost use mathlib.Core.Path.{_≡_};
+ghost use mathlib.Core.Bool.{true};
+ghost use mathlib.Core.List.{[]};
+ghost use Prim.Native.Nat.{_+_, _*_, _≤_, _<_, _^_};
+ghost use lib.ListN.{length};
+ghost use lib.Seq.{sets};
+ghost use Rattle.rules.specs.Tables.{mostPeople};
+ghost use Rattle.record.specs.SoundTest.{soundB};
+ghost use Rattle.record.specs.Run.{lastOf};
+ghost use Rattle.site.specs.Site.{limit};
+ghost use Rattle.run.specs.Steps.{stepsFrom, rowsIn, mostSteps};
+ghost use Rattle.run.specs.Printed.{answerRows, runText, aloneText, ranText, panelText};
+ghost use Rattle.run.specs.Printed.{placesText, recordText, whereText, printedOf, written, printedNumber};
+use crate::print::put_bytes;
+use crate::print::put_four;
+use crate::print::put_pair;
+use crate::serve::serve;
+use crate::steps::Heading;
+use crate::steps::MOST_STEPS;
+use crate::steps::heading_of;
+use record::record::Record;
+use site::read::read_site;
+
+// The numbers of a long sheet and of a row of bad form or a wrong header.
+const TOO_LONG: u8 = 1;
+
+const BAD_FORM: u8 = 2;
+
+// Room for every text that `panel` prints, and for every one that `where` prints: `panel-fits` and `where-fits` of
+// crates/demands/specs/DemandOne.antt say so.
+pub const MOST_PANEL_TEXT: usize = 81920;
+
+pub const MOST_WHERE_TEXT: usize = 512;
+
+// What became of a text: so many bytes of the lent list are it, or it doesn't fit and nothing was written.
+pub enum Printed {
+    Text(usize),
+    TooShort,
+}
+
+impl Printed {
+    // The paper's number.
+    pub fn number(self) -> u8
+        ensures { λ r. ⌜ r ≡ printedNumber self ⌝ }
+    {
+        match self {
+            Printed::Text(_) => 0,
+            Printed::TooShort => 13,
+        }
+    }
+}
+
+// A byte as a number of the text.
+fn wide(byte: u8) -> usize
+    ensures is { λ r. ⌜ r ≡ byte ⌝ }
+    ensures small { λ r. ⌜ r < 256 ⌝ }
+{
+    byte as usize
+}
+
+// A row for each answer, the first of them row 1.
+fn put_answers<'a>(
+    answers: &'a [u8],
+    phases: &'a [u8],
+    reasons: &'a [u8],
+    out: &'a mut [u8],
+    at: usize,
+) -> usize
+    requires { ⌜ at < 2 ^ 50 ⌝ }
+    requires { ⌜ (length (now answers) ≤ mostSteps) × (length (now phases) ≡ length (now answers)) × (length (now reasons) ≡ length (now answers)) ⌝ }
+    ensures place { λ r. ⌜ r ≡ at + length (answerRows 1 (now (answers .entry)) (now (phases .entry)) (now (reasons .entry))) ⌝ }
+    ensures near { λ r. ⌜ r ≤ at + 25 * length (now (answers .entry)) ⌝ }
+    ensures out { λ _. ⌜ now (out .exit) ≡ sets (now (out .entry)) at (answerRows 1 (now (answers .entry)) (now (phases .entry)) (now (reasons .entry))) ⌝ }
+{
+    let mut next = at;
+    let mut i = 0;
+    while i < answers.len() {
+        let answer = wide(answers[i]);
+        let phase = wide(phases[i]);
+        let reason = wide(reasons[i]);
+        next = put_four(out, next, i + 1, answer, phase, reason);
+        i += 1;
+    }
+    next
+}
+
+// The text of a run: the header, the answers, and the row of bad form that ended the run.
+fn put_run<'a>(
+    answers: &'a [u8],
+    phases: &'a [u8],
+    reasons: &'a [u8],
+    whole: bool,
+    out: &'a mut [u8],
+) -> usize
+    requires { ⌜ (length (now answers) ≤ mostSteps) × (length (now phases) ≡ length (now answers)) × (length (now reasons) ≡ length (now answers)) ⌝ }
+    ensures place { λ r. ⌜ r ≡ length (runText (now (answers .entry)) (now (phases .entry)) (now (reasons .entry)) whole) ⌝ }
+    ensures out { λ _. ⌜ now (out .exit) ≡ sets (now (out .entry)) 0 (runText (now (answers .entry)) (now (phases .entry)) (now (reasons .entry)) whole) ⌝ }
+{
+    let rows = put_bytes(b"row,answer,phase,reason\r\n", out, 0);
+    let end = put_answers(answers, phases, reasons, out, rows);
+    if whole {
+        return end;
+    }
+    put_four(out, end, answers.len() + 1, BAD_FORM as usize, 0, 0)
+}
+
+// The text of a run, if it fits.
+fn print_run<'a>(
+    answers: &'a [u8],
+    phases: &'a [u8],
+    reasons: &'a [u8],
+    whole: bool,
+    out: &'a mut [u8],
+) -> Printed
+    requires { ⌜ (length (now answers) ≤ mostSteps) × (length (now phases) ≡ length (now answers)) × (length (now reasons) ≡ length (now answers)) ⌝ }
+    ensures printed { λ r. ⌜ r ≡ printedOf (runText (now (answers .entry)) (now (phases .entry)) (now (reasons .entry)) whole) (now (out .entry)) ⌝ }
+    ensures out { λ _. ⌜ now (out .exit) ≡ written (runText (now (answers .entry)) (now (phases .entry)) (now (reasons .entry)) whole) (now (out .entry)) ⌝ }
+{
+    let length = put_run(answers, phases, reasons, whole, &mut out[..0]);
+    if out.len() < length {
+        return Printed::TooShort;
+    }
+    Printed::Text(put_run(answers, phases, reasons, whole, out))
+}
+
+// A number alone after the header: a sheet was refused.
+fn put_alone(number: u8, out: &mut [u8]) -> usize
+    ensures place { λ r. ⌜ r ≡ length (aloneText number) ⌝ }
+    ensures out { λ _. ⌜ now (out .exit) ≡ sets (now (out .entry)) 0 (aloneText number) ⌝ }
+{
+    let row = put_bytes(b"row,answer,phase,reason\r\n", out, 0);
+    put_four(out, row, 0, number as usize, 0, 0)
+}
+
+fn print_alone(number: u8, out: &mut [u8]) -> Printed
+    ensures printed { λ r. ⌜ r ≡ printedOf (aloneText number) (now (out .entry)) ⌝ }
+    ensures out { λ _. ⌜ now (out .exit) ≡ written (aloneText number) (now (out .entry)) ⌝ }
+{
+    let length = put_alone(number, &mut out[..0]);
+    if out.len() < length {
+        return Printed::TooShort;
+    }
+    Printed::Text(put_alone(number, out))
+}
+
+// The rows of a steps sheet from a position on, run and printed.
+fn print_steps<'a>(fresh: Record, s: &'a [u8], from: usize, out: &'a mut [u8]) -> Printed
+    requires { ⌜ soundB fresh ≡ true ⌝ }
+    requires { ⌜ length (now s) ≤ limit ⌝ }
+    ensures printed { λ r. ⌜ r ≡ printedOf (ranText fresh (stepsFrom (now (s .entry)) from)) (now (out .entry)) ⌝ }
+    ensures out { λ _. ⌜ now (out .exit) ≡ written (ranText fresh (stepsFrom (now (s .entry)) from)) (now (out .entry)) ⌝ }
+{
+    let mut answers = [0u8; MOST_STEPS];
+    let mut phases = [0u8; MOST_STEPS];
+    let mut reasons = [0u8; MOST_STEPS];
+    let served = serve(fresh, s, from, &mut answers, &mut phases, &mut reasons);
+    let count = served.count;
+    print_run(
+        &answers[..count],
+        &phases[..count],
+        &reasons[..count],
+        served.whole,
+        out,
+    )
+}
+
+// What `panel` prints.
+pub fn panel_text<'a>(site: &'a [u8], steps: &'a [u8], out: &'a mut [u8]) -> Printed
+    ensures printed { λ r. ⌜ r ≡ printedOf (panelText (now (site .entry)) (now (steps .entry))) (now (out .entry)) ⌝ }
+    ensures out { λ _. ⌜ now (out .exit) ≡ written (panelText (now (site .entry)) (now (steps .entry))) (now (out .entry)) ⌝ }
+{
+    let read = read_site(site);
+    let verdict = read.verdict;
+    let number = verdict.number();
+    if number != 0 {
+        return print_alone(number, out);
+    }
+    let fresh = read.record;
+    match heading_of(steps) {
+        Heading::TooLong => print_alone(TOO_LONG, out),
+        Heading::Wrong => print_alone(BAD_FORM, out),
+        Heading::Rows(from) => print_steps(fresh, steps, from, out),
+    }
+}
+
+// The header of what `where` prints, and a row for each of these places.
+fn put_places<'a>(places: &'a [u8], out: &'a mut [u8]) -> usize
+    requires { ⌜ length (now places) ≤ mostPeople ⌝ }
+    ensures place { λ r. ⌜ r ≡ length (placesText (now (places .entry))) ⌝ }
+    ensures out { λ _. ⌜ now (out .exit) ≡ sets (now (out .entry)) 0 (placesText (now (places .entry))) ⌝ }
+{
+    let mut next = put_bytes(b"person,location\r\n", out, 0);
+    let mut i = 0;
+    while i < places.len() {
+        let location = wide(places[i]);
+        next = put_pair(out, next, i, location);
+        i += 1;
+    }
+    next
+}
+
+fn print_places<'a>(places: &'a [u8], out: &'a mut [u8]) -> Printed
+    requires { ⌜ length (now places) ≤ mostPeople ⌝ }
+    ensures printed { λ r. ⌜ r ≡ printedOf (placesText (now (places .entry))) (now (out .entry)) ⌝ }
+    ensures out { λ _. ⌜ now (out .exit) ≡ written (placesText (now (places .entry))) (now (out .entry)) ⌝ }
+{
+    let length = put_places(places, &mut out[..0]);
+    if out.len() < length {
+        return Printed::TooShort;
+    }
+    Printed::Text(put_places(places, out))
+}
+
+// The places of the people of a record.
+fn print_record(r: Record, out: &mut [u8]) -> Printed
+    requires { ⌜ r .people ≤ mostPeople ⌝ }
+    ensures printed { λ printed. ⌜ printed ≡ printedOf (recordText r) (now (out .entry)) ⌝ }
+    ensures out { λ _. ⌜ now (out .exit) ≡ written (recordText r) (now (out .entry)) ⌝ }
+{
+    let people = r.people;
+    let place = r.place;
+    print_places(&place[..people], out)
+}
+
+// The record after the rows of a steps sheet from a position on.
+fn record_after(fresh: Record, s: &[u8], from: usize) -> Record
+    requires { ⌜ soundB fresh ≡ true ⌝ }
+    requires { ⌜ length (now s) ≤ limit ⌝ }
+    ensures { λ r. ⌜ r ≡ lastOf fresh (rowsIn (stepsFrom (now (s .entry)) from)) ⌝ }
+{
+    let mut answers = [0u8; MOST_STEPS];
+    let mut phases = [0u8; MOST_STEPS];
+    let mut reasons = [0u8; MOST_STEPS];
+    let served = serve(fresh, s, from, &mut answers, &mut phases, &mut reasons);
+    served.next
+}
+
+// What `where` prints.
+pub fn where_text<'a>(site: &'a [u8], steps: &'a [u8], out: &'a mut [u8]) -> Printed
+    ensures printed { λ r. ⌜ r ≡ printedOf (whereText (now (site .entry)) (now (steps .entry))) (now (out .entry)) ⌝ }
+    ensures out { λ _. ⌜ now (out .exit) ≡ written (whereText (now (site .entry)) (now (steps .entry))) (now (out .entry)) ⌝ }
+{
+    let read = read_site(site);
+    let verdict = read.verdict;
+    if verdict.number() != 0 {
+        return print_places(&[], out);
+    }
+    let fresh = read.record;
+    match heading_of(steps) {
+        Heading::TooLong => print_record(fresh, out),
+        Heading::Wrong => print_record(fresh, out),
+        Heading::Rows(from) => print_record(record_after(fresh, steps, from), out),
+    }
+}

@@ -1,0 +1,47 @@
+-- `vectors::main` is safe and ends. The measure is the number of cases that are left; nothing has to hold from turn to turn.
+-- Assumes nothing.
+use borrow.Author.Needs.{needs}
+use Prim.Native.Nat.{_-_}
+use Rattle.vectors.proofs.main.Statement.{statement}
+use Rattle.vectors.proofs.main.Tie as tie
+
+abbrev Inv-loop : tie.InvT-loop
+Inv-loop cases n₀ n = Unit {0}
+
+abbrev μ-loop : tie.MeasureT-loop
+μ-loop cases n₀ n = cases - n
+
+number-asked-requires : tie.Need-number-asked-requires Inv-loop μ-loop
+number-asked-requires c κs = tt
+
+loop-holds : tie.Need-loop-holds Inv-loop μ-loop
+loop-holds c = tt
+
+run-case-requires : tie.Need-run-case-requires Inv-loop μ-loop
+run-case-requires c κs = tt
+
+add-n : tie.Need-add-n Inv-loop μ-loop
+add-n c = search needs
+
+loop-less : tie.Need-loop-less Inv-loop μ-loop
+loop-less c = search needs
+
+loop-again : tie.Need-loop-again Inv-loop μ-loop
+loop-again c = tt
+
+returns : tie.Need-returns Inv-loop μ-loop
+returns c = tt
+
+pub main-spec : {M : Type 1} → statement M
+main-spec =
+    tie.close
+    (tie.spec
+    Inv-loop
+    μ-loop
+    number-asked-requires
+    loop-holds
+    run-case-requires
+    add-n
+    loop-less
+    loop-again
+    returns)

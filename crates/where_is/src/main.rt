@@ -1,0 +1,21 @@
+// `where`: reads site.csv and steps.csv of the folder that it is run in and writes where everyone is after the steps. The text
+// is proved in the crate `run`; here is only reading and writing.
+use files::ROOM;
+use files::read_sheet;
+use libc::STDOUT_FILENO;
+use run::text::MOST_WHERE_TEXT;
+use run::text::Printed;
+use run::text::where_text;
+
+fn main() {
+    let mut site = [0u8; ROOM];
+    let mut steps = [0u8; ROOM];
+    let mut out = [0u8; MOST_WHERE_TEXT];
+    let in_site = read_sheet(b"site.csv", &mut site);
+    let in_steps = read_sheet(b"steps.csv", &mut steps);
+    if let Printed::Text(length) = where_text(&site[..in_site], &steps[..in_steps], &mut out) {
+        if length <= MOST_WHERE_TEXT {
+            io::write_all(STDOUT_FILENO, &out[0..length]);
+        }
+    }
+}
