@@ -10,18 +10,17 @@ use Rattle.record.proofs.Cases.{either}
 use Rattle.site.specs.declared.Line.{Line}
 use Rattle.site.specs.declared.Line.the-variants.{Site, Door, Exit, Right, Bad}
 use Rattle.site.specs.declared.Draft.{Draft}
-use Rattle.site.specs.declared.Taken.{Taken}
-use Rattle.site.specs.Draft.{Bounded, blankDraft, siteFits, doorFits, exitFits, rightFits, takeSite, takeDoor, takeExit, takeRight, takeLine}
+use Rattle.site.specs.Draft.{Taken, Bounded, countsOf, blankDraft, siteFits, doorFits, exitFits, rightFits, takeSite, takeDoor, takeExit, takeRight, takeLine}
 use Rattle.site.proofs.Fits.{site-in, door-in}
 
-pub bounded-blank : Bounded blankDraft
+pub bounded-blank : Bounded (countsOf blankDraft)
 bounded-blank = record { people = omega arith; locations = omega arith; doors = omega arith }
 
 -- the tables after a row
 abbrev Kept : Taken → Type 0
-Kept t = Bounded (t .draft)
+Kept t = Bounded (countsOf (t .draft))
 
-module _ (d : Draft) (b : Bounded d) where
+module _ (d : Draft) (b : Bounded (countsOf d)) where
   site-kept : (p l : ℕ) → Kept (takeSite d p l)
   unfolding takeSite
   site-kept p l =
@@ -46,7 +45,7 @@ module _ (d : Draft) (b : Bounded d) where
       either Kept (rightFits (d .people) (d .locations) p l)
       (λ e. either Kept (getD (d .right) (p * mostLocations + l) false) (λ g. b) (λ g. record { people = b .people; locations = b .locations; doors = b .doors })) (λ n. b)
 
-  pub bounded-stays : (line : Line) → Bounded (takeLine d line .draft)
+  pub bounded-stays : (line : Line) → Bounded (countsOf (takeLine d line .draft))
   unfolding takeLine
   bounded-stays (Site p l) = site-kept p l
   bounded-stays (Door o t) = either Kept (eqb (d .locations) 0) (λ e. b) (λ e. door-kept o t)

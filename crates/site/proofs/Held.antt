@@ -19,7 +19,7 @@ use Rattle.record.proofs.Cases.{same-or-not, below-or-not}
 use Rattle.site.specs.declared.Line.{Line}
 use Rattle.site.specs.declared.Line.the-variants.{Site, Door, Exit, Right, Bad}
 use Rattle.site.specs.declared.Draft.{Draft}
-use Rattle.site.specs.Draft.{Bounded, blankDraft, unmarked, withSite, withDoor, withExit, withRight}
+use Rattle.site.specs.Draft.{Bounded, countsOf, blankDraft, unmarked, withSite, withDoor, withExit, withRight}
 use Rattle.site.specs.Says.{Holds, originsIn, destinationsIn, isExit, hasExit, exitIn, hasRight}
 use Rattle.site.proofs.Fits.{SiteIn, DoorIn, ExitIn, RightIn}
 use Rattle.site.proofs.Bounds.{bounded-blank}
@@ -42,7 +42,7 @@ Zero d = ZeroBeyond (d .people) (d .locations) (d .doors) (d .origin) (d .destin
 pub record Held (before : List Line) (d : Draft) : Type 0 where
   pub holds : Holds before d
   pub shape : Shape d
-  pub bounded : Bounded d
+  pub bounded : Bounded (countsOf d)
   -- the tables have locations once the first line has come
   pub unbegun : before ≡ [] → d .locations ≡ 0
   pub begun : (before ≡ [] → ⊥) → 1 ≤ d .locations

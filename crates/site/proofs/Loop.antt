@@ -12,41 +12,40 @@ use Rattle.sheet.specs.Cut.{cutRow}
 use Rattle.sheet.specs.Rows.{onRow, rowsFrom}
 use Rattle.sheet.proofs.Reading.{cut-there, rows-next}
 use Rattle.site.specs.declared.Draft.{Draft}
-use Rattle.site.specs.declared.Taken.{Taken}
 use Rattle.site.specs.declared.read.Reading.{Reading}
 use Rattle.site.specs.Line.{lineAt}
-use Rattle.site.specs.Draft.{Bounded, blankDraft, takeLine}
+use Rattle.site.specs.Draft.{Taken, Bounded, countsOf, takeLine}
 use Rattle.site.specs.Site.{soundFault, linesIn, reading, onTaken, readLines}
-use Rattle.site.proofs.Bounds.{bounded-blank, bounded-stays}
+use Rattle.site.proofs.Bounds.{bounded-stays}
 
--- what is read of the whole sheet behind its header
-abbrev pub readAll : List ℕ → ℕ → Reading
-readAll s from = readLines blankDraft 1 (linesIn s (rowsFrom s from))
+-- what is read of the whole sheet behind its header, into the tables `start`
+abbrev pub readAll : List ℕ → ℕ → Draft → Reading
+readAll s from start = readLines start 1 (linesIn s (rowsFrom s from))
 
-pub record ReadSoFar (s : List ℕ) (from : ℕ) (draft : Draft) (at n : ℕ) : Type 0 where
-  pub answer : readAll s from ≡ readLines draft n (linesIn s (rowsFrom s at))
+pub record ReadSoFar (s : List ℕ) (from : ℕ) (start draft : Draft) (at n : ℕ) : Type 0 where
+  pub answer : readAll s from start ≡ readLines draft n (linesIn s (rowsFrom s at))
   pub few : n ≤ at + 1
-  pub bounded : Bounded draft
+  pub bounded : Bounded (countsOf draft)
 
-pub read-start : (s : List ℕ) (from : ℕ) → ReadSoFar s from blankDraft from 1
-read-start s from = record { answer = refl; few = omega arith; bounded = bounded-blank }
+pub read-start : {s : List ℕ} {from : ℕ} {start : Draft} → Bounded (countsOf start) → ReadSoFar s from start start from 1
+read-start b = record { answer = refl; few = omega arith; bounded = b }
 
-module _ {s : List ℕ} {from at n : ℕ} {draft : Draft} (so : ReadSoFar s from draft at n) where
-  pub read-turn : {cut : RowCut} → cutRow s at ≡ cut → readAll s from ≡ readLines draft n (linesIn s (onRow cut (rowsFrom s)))
+module _ {s : List ℕ} {from at n : ℕ} {start draft : Draft} (so : ReadSoFar s from start draft at n) where
+  pub read-turn : {cut : RowCut} → cutRow s at ≡ cut → readAll s from start ≡ readLines draft n (linesIn s (onRow cut (rowsFrom s)))
   read-turn {cut} e = so .answer ∙ ap (λ r. readLines draft n (linesIn s r)) (rows-next s at ∙ ap (λ c. onRow c (rowsFrom s)) e)
 
   read-row : {cells : Cells} {next : ℕ} → cutRow s at ≡ Cut cells next
-      → readAll s from ≡ onTaken (takeLine draft (lineAt s cells)) n (readLines (takeLine draft (lineAt s cells) .draft) (n + 1) (linesIn s (rowsFrom s next)))
+      → readAll s from start ≡ onTaken (takeLine draft (lineAt s cells)) n (readLines (takeLine draft (lineAt s cells) .draft) (n + 1) (linesIn s (rowsFrom s next)))
   unfolding linesIn readLines
   read-row e = read-turn e
 
   -- t is what taking the row gave
   pub read-stop : {cells : Cells} {next : ℕ} {t : Taken} → cutRow s at ≡ Cut cells next → t ≡ takeLine draft (lineAt s cells)
-      → soundFault (t .fault) ≡ false → readAll s from ≡ reading (t .draft) (t .fault) n
+      → soundFault (t .fault) ≡ false → readAll s from start ≡ reading (t .draft) (t .fault) n
   read-stop e h q = rw h (read-row e ∙ rw (rw h at q))
 
   pub read-more : {cells : Cells} {next : ℕ} {t : Taken} → cutRow s at ≡ Cut cells next → t ≡ takeLine draft (lineAt s cells)
-      → soundFault (t .fault) ≡ true → ReadSoFar s from (t .draft) next (n + 1)
+      → soundFault (t .fault) ≡ true → ReadSoFar s from start (t .draft) next (n + 1)
   read-more {cells} e h q =
       let w = cut-there s at e in
       let f = so .few in

@@ -16,8 +16,7 @@ use Rattle.site.specs.declared.Line.the-variants.{Site, Door, Exit, Righ
 use Rattle.site.specs.declared.Draft.{Draft}
 use Rattle.site.specs.declared.Fault.{Fault}
 use Rattle.site.specs.declared.Fault.the-variants as fault
-use Rattle.site.specs.declared.Taken.{Taken}
-use Rattle.site.specs.Draft.{took, refused, siteFits, doorFits, exitFits, rightFits, withSite, withDoor, withExit, withRight, takeSite, takeDoor, takeExit, takeRight, takeLine}
+use Rattle.site.specs.Draft.{Taken, took, refused, siteFits, doorFits, exitFits, rightFits, withSite, withDoor, withExit, withRight, takeSite, takeDoor, takeExit, takeRight, takeLine}
 use Rattle.site.specs.Site.{soundFault}
 use Rattle.site.specs.Says.{hasExit, hasRight, InRange, site-range, door-range, exit-range, right-range, Again, second-site, second-exit, same-right, NotFirst, door-first, exit-first, right-first, Fine, Wrong, of-form, no-site, out-of-range, said-again}
 use Rattle.site.proofs.Fits.{SiteIn, DoorIn, ExitIn, RightIn, site-in, door-in, exit-in, right-in, site-fit, door-fit, exit-fit, right-fit}

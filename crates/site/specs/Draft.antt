@@ -8,10 +8,15 @@ use Rattle.record.specs.Doors.{zeros}
 use Rattle.rules.specs.Tables.{andAlso, mostPeople, mostLocations, mostDoors}
 use Rattle.site.specs.declared.Line.{Line}
 use Rattle.site.specs.declared.Line.the-variants.{Site, Door, Exit, Right, Bad}
+use Rattle.site.specs.declared.Counts.{Counts}
 use Rattle.site.specs.declared.Draft.{Draft}
 use Rattle.site.specs.declared.Fault.{Fault}
 use Rattle.site.specs.declared.Fault.the-variants.{Sound, Form, NoSite, Range, Twice}
-use Rattle.site.specs.declared.Taken.{Taken}
+
+-- the tables with a row in them, or as they were where something is wrong with the row
+pub record Taken : Type 0 where
+  pub draft : Draft
+  pub fault : Fault
 
 -- n marks that aren't set, as a list that stays under this name
 unfoldable pub unmarked : ℕ → List Bool
@@ -30,10 +35,13 @@ blankDraft = record {
 }
 
 -- the counts are in their ranges
-pub record Bounded (d : Draft) : Type 0 where
-  pub people : d .people ≤ mostPeople
-  pub locations : d .locations ≤ mostLocations
-  pub doors : d .doors ≤ mostDoors
+pub record Bounded (c : Counts) : Type 0 where
+  pub people : c .people ≤ mostPeople
+  pub locations : c .locations ≤ mostLocations
+  pub doors : c .doors ≤ mostDoors
+
+abbrev pub countsOf : Draft → Counts
+countsOf d = record { people = d .people; locations = d .locations; doors = d .doors }
 
 abbrev pub took : Draft → Taken
 took d = record { draft = d; fault = Sound }

@@ -1,5 +1,6 @@
 pub mod Line
 pub mod Draft
+pub mod Lent
 pub mod Site
 pub mod Says
 pub mod Gives

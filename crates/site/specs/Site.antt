@@ -20,13 +20,12 @@ use Rattle.site.specs.declared.Line.the-variants.{Bad}
 use Rattle.site.specs.declared.Draft.{Draft}
 use Rattle.site.specs.declared.Fault.{Fault}
 use Rattle.site.specs.declared.Fault.the-variants as fault
-use Rattle.site.specs.declared.Taken.{Taken}
 use Rattle.site.specs.declared.read.Verdict.{Verdict}
 use Rattle.site.specs.declared.read.Verdict.the-variants.{Accepted, TooLong, BadRow, OutOfRange, Twice, NoSite, NoExit, Stray, NoDoor, NoRight, ShutOut}
 use Rattle.site.specs.declared.read.SiteRead.{SiteRead}
 use Rattle.site.specs.declared.read.Reading.{Reading}
 use Rattle.site.specs.Line.{lineAt, headerAt}
-use Rattle.site.specs.Draft.{blankDraft, unmarked, takeLine}
+use Rattle.site.specs.Draft.{Taken, blankDraft, unmarked, takeLine}
 
 -- "A sheet is at most 49,152 bytes."
 abbrev pub limit : ℕ

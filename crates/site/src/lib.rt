@@ -2,11 +2,14 @@
 //
 // Here is what a row says, and the tables while a sheet is being read, with how a row goes into them; `read` has the whole
 // sheet. The definitions are in specs/, in the words of paper 01, "Site sheet" and "Numbers given back".
+ghost use Prim.Native.Nat.{ℕ};
+ghost use mathlib.Core.Bool.{Bool};
+ghost use mathlib.Core.List.{List};
 ghost use mathlib.Core.Path.{_≡_};
 ghost use Rattle.site.specs.Line.{wordOf, lineAt, headerAt};
-ghost use Rattle.site.specs.Draft.{Bounded, blankDraft, siteFits, doorFits, exitFits, rightFits};
-ghost use Rattle.site.specs.Draft.{took, refused, withSite, withDoor, withExit, withRight};
+ghost use Rattle.site.specs.Draft.{Bounded, siteFits, doorFits, exitFits, rightFits};
 ghost use Rattle.site.specs.Draft.{takeSite, takeDoor, takeExit, takeRight, takeLine};
+ghost use Rattle.site.specs.Lent.{counted, draftOf, after};
 use sheet::cut::Cell;
 use sheet::cut::Cells;
 use sheet::say::Number;
@@ -102,8 +105,15 @@ const MOST_LOCATIONS: usize = 32;
 
 const MOST_DOORS: usize = 64;
 
+// The counts. No locations as long as the `site` row hasn't come.
+pub struct Counts {
+    pub people: usize,
+    pub locations: usize,
+    pub doors: usize,
+}
+
 // The counts, each door's origin and destination, each location's exit with a mark where one has been given, and the
-// rights, 32 to a person. No locations yet: the `site` row hasn't come.
+// rights, 32 to a person.
 pub struct Draft {
     pub people: usize,
     pub locations: usize,
@@ -129,9 +139,9 @@ pub enum Fault {
     Twice,
 }
 
-// The tables with a row in them, or as they were where something is wrong with the row.
-pub struct Taken {
-    pub draft: Draft,
+// The counts after a row, and what is wrong with it.
+pub struct Counted {
+    pub counts: Counts,
     pub fault: Fault,
 }
 
@@ -193,126 +203,125 @@ fn right_fits(people: usize, locations: usize, person: usize, location: usize) -
     location < locations
 }
 
-impl Draft {
-    // The tables before the first row.
-    fn blank() -> Draft
-        ensures { λ r. ⌜ r ≡ blankDraft ⌝ }
+impl Counts {
+    // These counts after a row with which this is wrong, or nothing.
+    fn told(self, fault: Fault) -> Counted
+        ensures { λ r. ⌜ r ≡ counted self fault ⌝ }
     {
-        Draft {
-            people: 0,
-            locations: 0,
-            doors: 0,
-            origin: [0; 64],
-            destination: [0; 64],
-            exit: [0; 32],
-            given: [false; 32],
-            right: [false; 2048],
+        Counted {
+            counts: self,
+            fault,
         }
-    }
-
-    fn took(self) -> Taken
-        ensures { λ r. ⌜ r ≡ took self ⌝ }
-    {
-        Taken {
-            draft: self,
-            fault: Fault::Sound,
-        }
-    }
-
-    fn refused(self, fault: Fault) -> Taken
-        ensures { λ r. ⌜ r ≡ refused self fault ⌝ }
-    {
-        Taken { draft: self, fault }
     }
 
     // `site,P,L`
-    fn take_site(mut self, people: usize, locations: usize) -> Taken
-        ensures { λ r. ⌜ r ≡ takeSite self people locations ⌝ }
+    fn take_site(mut self, people: usize, locations: usize) -> Counted
+        ensures { λ r. ⌜ ((origin destination exit : List ℕ) (given right : List Bool) → after r origin destination exit given right ≡ takeSite (draftOf self origin destination exit given right) people locations) ⌝ }
     {
         if !site_fits(people, locations) {
-            return self.refused(Fault::Range);
+            return self.told(Fault::Range);
         }
         if self.locations != 0 {
-            return self.refused(Fault::Twice);
+            return self.told(Fault::Twice);
         }
         self.people = people;
         self.locations = locations;
-        self.took()
+        self.told(Fault::Sound)
     }
 
     // `door,o,t`
-    fn take_door(mut self, from: usize, to: usize) -> Taken
+    fn take_door<'a>(
+        mut self,
+        origin: &'a mut [u8; 64],
+        destination: &'a mut [u8; 64],
+        from: usize,
+        to: usize,
+    ) -> Counted
         requires { ⌜ Bounded self ⌝ }
-        ensures { λ r. ⌜ r ≡ takeDoor self from to ⌝ }
+        ensures { λ r. ⌜ ((exit : List ℕ) (given right : List Bool) → after r (now (origin .exit)) (now (destination .exit)) exit given right ≡ takeDoor (draftOf self (now (origin .entry)) (now (destination .entry)) exit given right) from to) ⌝ }
     {
         if !door_fits(self.locations, self.doors, from, to) {
-            return self.refused(Fault::Range);
+            return self.told(Fault::Range);
         }
         let door = self.doors;
-        self.origin[door] = from as u8;
-        self.destination[door] = to as u8;
+        origin[door] = from as u8;
+        destination[door] = to as u8;
         self.doors = door + 1;
-        self.took()
+        self.told(Fault::Sound)
     }
 
     // `exit,l,m`
-    fn take_exit(mut self, from: usize, to: usize) -> Taken
+    fn take_exit<'a>(
+        self,
+        exit: &'a mut [u8; 32],
+        given: &'a mut [bool; 32],
+        from: usize,
+        to: usize,
+    ) -> Counted
         requires { ⌜ Bounded self ⌝ }
-        ensures { λ r. ⌜ r ≡ takeExit self from to ⌝ }
+        ensures { λ r. ⌜ ((origin destination : List ℕ) (right : List Bool) → after r origin destination (now (exit .exit)) (now (given .exit)) right ≡ takeExit (draftOf self origin destination (now (exit .entry)) (now (given .entry)) right) from to) ⌝ }
     {
         if !exit_fits(self.locations, from, to) {
-            return self.refused(Fault::Range);
+            return self.told(Fault::Range);
         }
-        if self.given[from] {
-            return self.refused(Fault::Twice);
+        if given[from] {
+            return self.told(Fault::Twice);
         }
-        self.exit[from] = to as u8;
-        self.given[from] = true;
-        self.took()
+        exit[from] = to as u8;
+        given[from] = true;
+        self.told(Fault::Sound)
     }
 
     // `right,p,l`
-    fn take_right(mut self, person: usize, location: usize) -> Taken
+    fn take_right(self, right: &mut [bool; 2048], person: usize, location: usize) -> Counted
         requires { ⌜ Bounded self ⌝ }
-        ensures { λ r. ⌜ r ≡ takeRight self person location ⌝ }
+        ensures { λ r. ⌜ ((origin destination exit : List ℕ) (given : List Bool) → after r origin destination exit given (now (right .exit)) ≡ takeRight (draftOf self origin destination exit given (now (right .entry))) person location) ⌝ }
     {
         if !right_fits(self.people, self.locations, person, location) {
-            return self.refused(Fault::Range);
+            return self.told(Fault::Range);
         }
         let at = person * MOST_LOCATIONS + location;
-        if self.right[at] {
-            return self.refused(Fault::Twice);
+        if right[at] {
+            return self.told(Fault::Twice);
         }
-        self.right[at] = true;
-        self.took()
+        right[at] = true;
+        self.told(Fault::Sound)
     }
 
-    // The tables with a row in them.
-    fn take(self, line: Line) -> Taken
+    // A row goes into the tables that are lent, which stay as they are where something is wrong with it.
+    fn take<'a>(
+        self,
+        line: Line,
+        origin: &'a mut [u8; 64],
+        destination: &'a mut [u8; 64],
+        exit: &'a mut [u8; 32],
+        given: &'a mut [bool; 32],
+        right: &'a mut [bool; 2048],
+    ) -> Counted
         requires { ⌜ Bounded self ⌝ }
-        ensures { λ r. ⌜ r ≡ takeLine self line ⌝ }
+        ensures { λ r. ⌜ after r (now (origin .exit)) (now (destination .exit)) (now (exit .exit)) (now (given .exit)) (now (right .exit)) ≡ takeLine (draftOf self (now (origin .entry)) (now (destination .entry)) (now (exit .entry)) (now (given .entry)) (now (right .entry))) line ⌝ }
     {
         match line {
             Line::Site(people, locations) => self.take_site(people, locations),
             Line::Door(from, to) => {
                 if self.locations == 0 {
-                    return self.refused(Fault::NoSite);
+                    return self.told(Fault::NoSite);
                 }
-                self.take_door(from, to)
+                self.take_door(origin, destination, from, to)
             }
             Line::Exit(from, to) => {
                 if self.locations == 0 {
-                    return self.refused(Fault::NoSite);
+                    return self.told(Fault::NoSite);
                 }
-                self.take_exit(from, to)
+                self.take_exit(exit, given, from, to)
             }
             Line::Right(person, location) => {
                 if self.locations == 0 {
-                    return self.refused(Fault::NoSite);
+                    return self.told(Fault::NoSite);
                 }
-                self.take_right(person, location)
+                self.take_right(right, person, location)
             }
-            Line::Bad => self.refused(Fault::Form),
+            Line::Bad => self.told(Fault::Form),
         }
     }
 }

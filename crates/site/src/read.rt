@@ -3,8 +3,10 @@ ghost use mathlib.Core.Path.{_≡_};
 ghost use lib.ListN.{length};
 ghost use Rattle.sheet.specs.Rows.{rowsFrom};
 ghost use Rattle.site.specs.Draft.{blankDraft};
+ghost use Rattle.site.specs.Lent.{noCounts, draftOf, stop, stoppedAt};
 ghost use Rattle.site.specs.Site.{soundFault, verdictOf, linesIn, readLines, blankRecord, acceptedSite, refusedSite};
 ghost use Rattle.site.specs.Site.{judged, settled, siteOf, numberOf, firstPlace, secondPlace};
+use crate::Counts;
 use crate::Draft;
 use crate::Fault;
 use crate::is_header;
@@ -46,6 +48,25 @@ pub struct Reading {
     pub row: usize,
 }
 
+// Where the rows of a sheet stopped: the counts then, what is wrong with the last row, and its number.
+pub struct Stop {
+    pub counts: Counts,
+    pub fault: Fault,
+    pub row: usize,
+}
+
+impl Counts {
+    fn stop(self, fault: Fault, row: usize) -> Stop
+        ensures { λ r. ⌜ r ≡ stop self fault row ⌝ }
+    {
+        Stop {
+            counts: self,
+            fault,
+            row,
+        }
+    }
+}
+
 // Whether nothing is wrong with a row.
 fn is_sound(fault: Fault) -> bool
     ensures { λ r. ⌜ r ≡ soundFault fault ⌝ }
@@ -72,45 +93,79 @@ fn verdict_of(fault: Fault, row: usize) -> Verdict
     }
 }
 
-// The rows of a sheet from a position on, the first of them row 1.
-fn read_rows(s: &[u8], from: usize) -> Reading
-    ensures { λ r. ⌜ r ≡ readLines blankDraft 1 (linesIn (now (s .entry)) (rowsFrom (now (s .entry)) from)) ⌝ }
+// The rows of a sheet from a position on, the first of them row 1, into the tables that are lent.
+fn take_rows<'s, 'a>(
+    s: &'s [u8],
+    from: usize,
+    origin: &'a mut [u8; 64],
+    destination: &'a mut [u8; 64],
+    exit: &'a mut [u8; 32],
+    given: &'a mut [bool; 32],
+    right: &'a mut [bool; 2048],
+) -> Stop
+    ensures { λ r. ⌜ stoppedAt r (now (origin .exit)) (now (destination .exit)) (now (exit .exit)) (now (given .exit)) (now (right .exit)) ≡ readLines (draftOf noCounts (now (origin .entry)) (now (destination .entry)) (now (exit .entry)) (now (given .entry)) (now (right .entry))) 1 (linesIn (now (s .entry)) (rowsFrom (now (s .entry)) from)) ⌝ }
 {
-    let mut draft = Draft::blank();
+    let mut counts = Counts {
+        people: 0,
+        locations: 0,
+        doors: 0,
+    };
     let mut at = from;
     let mut row: usize = 1;
     loop {
         match cut_row(s, at) {
             RowCut::Cut(cells, next) => {
-                let taken = draft.take(line_of(s, cells));
-                let fault = taken.fault;
-                let after = taken.draft;
+                let line = line_of(s, cells);
+                let told = counts.take(line, origin, destination, exit, given, right);
+                let fault = told.fault;
+                let after = told.counts;
                 if !is_sound(fault) {
-                    return Reading {
-                        draft: after,
-                        fault,
-                        row,
-                    };
+                    return after.stop(fault, row);
                 }
-                draft = after;
+                counts = after;
                 at = next;
                 row += 1;
             }
-            RowCut::NoRow => {
-                return Reading {
-                    draft,
-                    fault: Fault::Sound,
-                    row,
-                };
-            }
-            RowCut::Broken(_) => {
-                return Reading {
-                    draft,
-                    fault: Fault::Form,
-                    row,
-                };
-            }
+            RowCut::NoRow => return counts.stop(Fault::Sound, row),
+            RowCut::Broken(_) => return counts.stop(Fault::Form, row),
         }
+    }
+}
+
+// The rows of a sheet from a position on, into blank tables.
+fn read_rows(s: &[u8], from: usize) -> Reading
+    ensures { λ r. ⌜ r ≡ readLines blankDraft 1 (linesIn (now (s .entry)) (rowsFrom (now (s .entry)) from)) ⌝ }
+{
+    let mut origin = [0; 64];
+    let mut destination = [0; 64];
+    let mut exit = [0; 32];
+    let mut given = [false; 32];
+    let mut right = [false; 2048];
+    let stop = take_rows(
+        s,
+        from,
+        &mut origin,
+        &mut destination,
+        &mut exit,
+        &mut given,
+        &mut right,
+    );
+    let counts = stop.counts;
+    let fault = stop.fault;
+    let draft = Draft {
+        people: counts.people,
+        locations: counts.locations,
+        doors: counts.doors,
+        origin,
+        destination,
+        exit,
+        given,
+        right,
+    };
+    Reading {
+        draft,
+        fault,
+        row: stop.row,
     }
 }
 

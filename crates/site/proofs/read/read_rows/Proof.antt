@@ -1,89 +1,17 @@
--- `site::read::read_rows` meets its contract. The invariant of its loop: the answer from the row at `at` on is the answer from the start.
+-- `site::read::read_rows` meets its contract: the rows are taken into blank tables.
 -- Assumes nothing.
-use Prim.Native.Nat.{_-_}
-use mathlib.Core.Path.{sym, ap, _∙_}
-use native.Mathlib.Omega.{arith}
-use lib.ListN.{length}
-use borrow.Author.Tests.{not-true, not-false}
-use Rattle.sheet.proofs.Reading.{cut-there}
-use Rattle.site.specs.Draft.{takeLine}
-use Rattle.site.specs.Site.{linesIn, readLines}
-use Rattle.site.proofs.Loop.{ReadSoFar, read-start, read-turn, read-stop, read-more}
+use Rattle.record.specs.Doors.{zeros}
+use Rattle.site.specs.Draft.{unmarked}
 use borrow.Author.Needs.{needs}
 use Rattle.site.proofs.read.read_rows.Statement.{statement}
 use Rattle.site.proofs.read.read_rows.Tie as tie
 
-abbrev Inv-loop : tie.InvT-loop
-Inv-loop s from draft₀ at₀ row₀ draft at row = ReadSoFar s from draft at row
+take-rows-requires : tie.Need-take-rows-requires
+take-rows-requires c κs = search needs
 
-abbrev μ-loop : tie.MeasureT-loop
-μ-loop s from draft₀ at₀ row₀ draft at row = length s - at
-
-blank-requires : tie.Need-blank-requires Inv-loop μ-loop
-blank-requires c κs = search needs
-
-loop-holds : tie.Need-loop-holds Inv-loop μ-loop
-loop-holds c = rw (c .blank .ensures) (read-start _ _)
-
-cut-row-requires : tie.Need-cut-row-requires Inv-loop μ-loop
-cut-row-requires c κs = search needs
-
-enum-known-cells : tie.Need-enum-known-cells Inv-loop μ-loop
-enum-known-cells c = search needs
-
-line-of-requires : tie.Need-line-of-requires Inv-loop μ-loop
-line-of-requires c κs = search needs
-
-take-requires : tie.Need-take-requires Inv-loop μ-loop
-take-requires c κs = c .before .before .before .before .before .loop .inv .bounded
-
-is-sound-requires : tie.Need-is-sound-requires Inv-loop μ-loop
-is-sound-requires c κs = search needs
-
-returns : tie.Need-returns Inv-loop μ-loop
-returns c = sym (read-stop (c .before .before .before .before .before .before .before .before .before .loop .inv) (sym (c .before .before .before .before .before .before .before .before .cut-row .ensures) ∙ c .before .before .before .before .before .before .cells .given .1) (c .before .before .before .take .ensures ∙ ap (takeLine _) (c .before .before .before .before .line-of .ensures)) (sym (c .before .is-sound .ensures) ∙ not-true _ (c .if1 .taken)))
-
-add-row : tie.Need-add-row Inv-loop μ-loop
-add-row c = let w = cut-there _ _ (sym (c .before .before .before .before .before .before .before .before .cut-row .ensures) ∙ c .before .before .before .before .before .before .cells .given .1) in let f = c .before .before .before .before .before .before .before .before .before .loop .inv .few in omega arith
-
-loop-less : tie.Need-loop-less Inv-loop μ-loop
-loop-less c = let w = cut-there _ _ (sym (c .before .before .before .before .before .before .before .before .cut-row .ensures) ∙ c .before .before .before .before .before .before .cells .given .1) in omega arith
-
-loop-again : tie.Need-loop-again Inv-loop μ-loop
-loop-again c = read-more (c .before .before .before .before .before .before .before .before .before .loop .inv) (sym (c .before .before .before .before .before .before .before .before .cut-row .ensures) ∙ c .before .before .before .before .before .before .cells .given .1) (c .before .before .before .take .ensures ∙ ap (takeLine _) (c .before .before .before .before .line-of .ensures)) (sym (c .before .is-sound .ensures) ∙ not-false _ (c .if1 .left))
-
-enum-told : tie.Need-enum-told Inv-loop μ-loop
-enum-told c = search needs
-
-returns-2 : tie.Need-returns-2 Inv-loop μ-loop
-unfolding linesIn readLines
-returns-2 c = sym (read-turn (c .before .before .before .loop .inv) (sym (c .before .before .cut-row .ensures) ∙ c .enum-told .given .1))
-
-enum-told-2 : tie.Need-enum-told-2 Inv-loop μ-loop
-enum-told-2 c = search needs
-
-returns-3 : tie.Need-returns-3 Inv-loop μ-loop
-unfolding linesIn readLines takeLine
-returns-3 c = sym (read-turn (c .before .before .before .loop .inv) (sym (c .before .before .cut-row .ensures) ∙ c .enum-told2 .given .1))
+returns : tie.Need-returns
+unfolding zeros unmarked
+returns c = c .before .take-rows .ensures
 
 pub read-rows-spec : {M : Type 1} → statement M
-read-rows-spec =
-    tie.close
-    (tie.spec
-    Inv-loop
-    μ-loop
-    blank-requires
-    loop-holds
-    cut-row-requires
-    enum-known-cells
-    line-of-requires
-    take-requires
-    is-sound-requires
-    returns
-    add-row
-    loop-less
-    loop-again
-    enum-told
-    returns-2
-    enum-told-2
-    returns-3)
+read-rows-spec = tie.close (tie.spec take-rows-requires returns)
