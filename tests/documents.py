@@ -52,7 +52,7 @@ def public_functions(crate):
 
 
 def rows(page, crate):
-    """The rows of the table under the heading of a crate: the function's name, and the row's last column."""
+    """The rows of the table under the heading of a crate: the function's name, the number of its edits, and the edits."""
     part = re.search(r"^## Crate `%s`$(.*?)(?=^## |\Z)" % crate, page, re.M | re.S)
     if not part:
         faults.append(f"docs/PROMISES.md has no heading for the crate {crate}")
@@ -61,7 +61,7 @@ def rows(page, crate):
         cells = [cell.strip() for cell in line.strip().strip("|").split(" | ")]
         name = re.match(r"`([A-Za-z_:0-9]+)`", cells[0])
         if line.startswith("|") and name:
-            yield name.group(1), cells[-1]
+            yield name.group(1), (cells[-2], cells[-1])
 
 
 def check_promises(listed):
@@ -74,11 +74,13 @@ def check_promises(listed):
         promised = {}
         if functions:
             promised = dict(rows(page, crate))
-        for name, last in promised.items():
+        for name, (count, last) in promised.items():
             wrong = set(re.findall(r"`([A-Za-z_0-9]+)`", last)) & edits
             named |= wrong
             if name not in functions:
                 faults.append(f"docs/PROMISES.md names {crate}::{name}, which is not there")
+            if count != str(len(wrong)):
+                faults.append(f"docs/PROMISES.md counts {count} must-fail edits for {crate}::{name}, and names {len(wrong)}")
             if len(wrong) < 2:
                 faults.append(f"docs/PROMISES.md names fewer than two must-fail edits for {crate}::{name}")
         for name in functions:
