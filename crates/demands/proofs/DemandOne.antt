@@ -7,6 +7,7 @@ use mathlib.Core.Logic.{_⊎_, inl, inr, ⊎-elim}
 use native.Mathlib.Nat.{add-sub-of-le}
 use native.Mathlib.Omega.{arith}
 use borrow.Author.Tests.{ne-eqb, le-ltb, ltb-true, ltb-false, lt-ltb, le-leb, lt-leb, leb-true}
+use denote.Ref.{now}
 use lib.ListN.{length, getD, drop, length-drop, length-append}
 use lib.Dec.{eqb, ltb, leb}
 use Rattle.sheet.specs.declared.cut.Cell.{Cell}
@@ -19,6 +20,7 @@ use Rattle.sheet.specs.declared.say.Number.the-variants.{Is, None}
 use Rattle.sheet.specs.Grammar.{Field, bare, quoted, fieldText, comma, cr, lf}
 use Rattle.sheet.specs.Cut.{emptyAt, cutField, cutRow}
 use Rattle.sheet.specs.Where.{cellOf, CellHolds}
+use Rattle.sheet.specs.Reader.{past, pastRow}
 use Rattle.sheet.specs.Rows.{onRow, readRows, rowsFrom, countFrom, countRows}
 use Rattle.sheet.specs.Say.{valueFrom, ProperNumber, contentAt, sameBytes, isWord, numberAt}
 use Rattle.sheet.specs.Say as say
@@ -181,8 +183,26 @@ word-told s cell word = go (cell .doubled)
     go true e = absurd (false≢true e)
     go false e = same-true (contentAt s cell) word e
 
+-- a reader moves on within its sheet, or stays
+past-within : (s : List ℕ) (at : ℕ) → at ≤ length s → (cut : RowCut) → cutRow s at ≡ cut → Within s at (past cut at)
+unfolding past
+past-within s at h (Cut cells next) e = let w = cut-there s at e in record { from = omega arith; to = w .1 }
+past-within s at h NoRow e = record { from = omega arith; to = h }
+past-within s at h (Broken byte) e = record { from = omega arith; to = h }
+
 pub of-sheet : SheetAnswers
-of-sheet = record { cut-field = field-told; cut-row = λ s at. row-told s at (cutRow s at) refl; count-rows = count-told; is-word = word-told; number-of = number-small }
+of-sheet =
+    record {
+      cut-field = field-told;
+      cut-row = λ s at. row-told s at (cutRow s at) refl;
+      count-rows = count-told;
+      reader-new = λ sheet. refl;
+      reader-row = λ reader. row-told (now (reader .sheet)) (reader .at) _ refl;
+      reader-past-row = λ reader h. past-within (now (reader .sheet)) (reader .at) h (cutRow (now (reader .sheet)) (reader .at)) refl;
+      first-data-row = λ s. row-told s (pastRow s 0) _ refl;
+      is-word = word-told;
+      number-of = number-small;
+    }
 
 -- ---- crate `rules`
 
@@ -197,15 +217,15 @@ way-tells way list most =
     }
 
 -- past the last location no right is read
-past : (right : List Bool) (p l : ℕ) → mostLocations ≤ l → mayBe right p l ≡ false
+no-right-past : (right : List Bool) (p l : ℕ) → mostLocations ≤ l → mayBe right p l ≡ false
 unfolding mayBe orElse andAlso
-past right p l h = rw (ne-eqb l 0 (λ e. omega arith), le-ltb l mostLocations h)
+no-right-past right p l h = rw (ne-eqb l 0 (λ e. omega arith), le-ltb l mostLocations h)
 
 pub of-rules : RulesAnswers
 unfolding firstNoExit firstStray firstNoDoor firstShutOut
 of-rules =
     record {
-      may-be = λ right p l. (may-be-outside right p, past right p l);
+      may-be = λ right p l. (may-be-outside right p, no-right-past right p l);
       in-range = in-range-tells;
       first-no-exit = λ locations given l e. least-at (lacksExit given) locations l e .0;
       first-stray = λ locations exit l e. least-at (strays locations exit) locations l e .0;
@@ -470,6 +490,7 @@ of-record =
       allowed-in = table-allows;
       step = step-tells;
       step-numbered = λ r n d p. step-tells r (kindOf n) d p;
+      step-lent = step-tells;
       card = λ r d p. step-tells r Card d p;
       decide = λ r d. step-tells r Decide d 0;
       green = λ r d. step-tells r Green d 0;

@@ -10,8 +10,8 @@ use Rattle.demands.specs.Unique.{Unique, SheetUnique, RulesUnique, Recor
 alone : {A : Type 0} {a : A} → Unique (λ (x : A). x ≡ a)
 alone x y p q = p ∙ sym q
 
--- two equations one answer and one list,
-beside : {A : Type 0} {a : A} {l : List ℕ} → Unique (λ (x : A × List ℕ). (x .0 ≡ a) × (x .1 ≡ l))
+-- two equations one answer and one list or record,
+beside : {A B : Type 0} {a : A} {b : B} → Unique (λ (x : A × B). (x .0 ≡ a) × (x .1 ≡ b))
 beside x y p q = let e = p .0 ∙ sym (q .0) in let f = p .1 ∙ sym (q .1) in λ i. (e i, f i)
 
 -- and four one answer and three lists
@@ -30,6 +30,10 @@ sheet-unique =
       cut-field = λ s at. alone;
       cut-row = λ s at. alone;
       count-rows = λ s. alone;
+      reader-new = λ sheet. alone;
+      reader-row = λ reader. alone;
+      reader-past-row = λ reader. alone;
+      first-data-row = λ s. alone;
       is-word = λ s cell word. alone;
       number-of = λ s cell. alone;
     }
@@ -59,6 +63,7 @@ record-unique =
       allowed-in = λ k phase. alone;
       step = λ r k d p. alone;
       step-numbered = λ r n d p. alone;
+      step-lent = λ r k d p. beside;
       card = λ r d p. alone;
       decide = λ r d. alone;
       green = λ r d. alone;

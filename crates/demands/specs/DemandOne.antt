@@ -9,6 +9,8 @@ use mathlib.Core.List.{List, [], _∷_, _++_}
 use mathlib.Core.Logic.{_⊎_, _↔_}
 use lib.ListN.{length, getD, drop}
 use lib.Seq.{sets}
+use denote.Ref.{RefT, now}
+use Rattle.sheet.specs.declared.reader.Reader.{Reader}
 use Rattle.sheet.specs.declared.cut.Cell.{Cell}
 use Rattle.sheet.specs.declared.cut.FieldCut.{FieldCut}
 use Rattle.sheet.specs.declared.cut.FieldCut.the-variants.{Next, Last, Fault}
@@ -19,6 +21,7 @@ use Rattle.sheet.specs.declared.count.Counted.the-variants.{All, UpTo}
 use Rattle.sheet.specs.declared.say.Number.the-variants.{Is}
 use Rattle.sheet.specs.Cut.{cutField, cutRow}
 use Rattle.sheet.specs.Rows.{countRows}
+use Rattle.sheet.specs.Reader.{pastRow, firstDataRow, readerAt, movedOn}
 use Rattle.sheet.specs.Say.{contentAt, isWord, numberAt}
 use Rattle.rules.specs.declared.Found.the-variants.{At, Nothing}
 use Rattle.rules.specs.declared.RightFound.the-variants as pair
@@ -107,6 +110,11 @@ pub record SheetAnswers : Type 0 where
   pub cut-field : (s : List ℕ) (at : ℕ) → at ≤ length s → FieldTold s at (cutField s at)
   pub cut-row : (s : List ℕ) (at : ℕ) → RowTold s at (cutRow s at)
   pub count-rows : (s : List ℕ) → CountTold s (countRows s)
+  -- a reader begins at the first byte, tells the row at its place, and moves on within its sheet or stays
+  pub reader-new : (sheet : RefT (List ℕ)) → readerAt sheet 0 .at ≡ 0
+  pub reader-row : (reader : Reader) → RowTold (now (reader .sheet)) (reader .at) (cutRow (now (reader .sheet)) (reader .at))
+  pub reader-past-row : (reader : Reader) → reader .at ≤ length (now (reader .sheet)) → Within (now (reader .sheet)) (reader .at) (movedOn reader .at)
+  pub first-data-row : (s : List ℕ) → RowTold s (pastRow s 0) (firstDataRow s)
   -- a cell that is a word has its bytes
   pub is-word : (s : List ℕ) (cell : Cell) (word : List ℕ) → isWord s cell word ≡ true → contentAt s cell ≡ word
   -- "A number is 1 to 3 digits"
@@ -224,6 +232,8 @@ pub record RecordAnswers : Type 0 where
   pub allowed-in : (k : Kind) (phase : ℕ) → phase ≤ closed → asked k phase ≡ allows k phase
   pub step : (r : Record) (k : Kind) (d p : ℕ) → StepTells r k d p (stepOf r k d p)
   pub step-numbered : (r : Record) (n d p : ℕ) → StepTells r (kindOf n) d p (stepOf r (kindOf n) d p)
+  -- the record that is lent holds the next record at exit, so what is said of a step is said of it
+  pub step-lent : (r : Record) (k : Kind) (d p : ℕ) → StepTells r k d p (stepOf r k d p)
   pub card : (r : Record) (d p : ℕ) → StepTells r Card d p (stepOf r Card d p)
   pub decide : (r : Record) (d : ℕ) → StepTells r Decide d 0 (stepOf r Decide d 0)
   pub green : (r : Record) (d : ℕ) → StepTells r Green d 0 (stepOf r Green d 0)

@@ -5,6 +5,8 @@ use Prim.Native.Nat.{ℕ}
 use mathlib.Core.Path.{_≡_}
 use mathlib.Core.Bool.{Bool}
 use mathlib.Core.List.{List}
+use denote.Ref.{RefT, now}
+use Rattle.sheet.specs.declared.reader.Reader.{Reader}
 use Rattle.sheet.specs.declared.cut.Cell.{Cell}
 use Rattle.sheet.specs.declared.cut.FieldCut.{FieldCut}
 use Rattle.sheet.specs.declared.cut.RowCut.{RowCut}
@@ -12,6 +14,7 @@ use Rattle.sheet.specs.declared.count.Counted.{Counted}
 use Rattle.sheet.specs.declared.say.Number.{Number}
 use Rattle.sheet.specs.Cut.{cutField, cutRow}
 use Rattle.sheet.specs.Rows.{countRows}
+use Rattle.sheet.specs.Reader.{firstDataRow, readerAt, movedOn}
 use Rattle.sheet.specs.Say.{isWord, numberAt}
 use Rattle.rules.specs.declared.Found.{Found}
 use Rattle.rules.specs.declared.RightFound.{RightFound}
@@ -25,6 +28,7 @@ use Rattle.record.specs.declared.table.Kind.{Kind}
 use Rattle.record.specs.declared.table.Kind.the-variants.{Card, Decide, Green, Red, Walk, Tick, Passed, Lapsed, Dark, Ack}
 use Rattle.record.specs.declared.steps.Answer.{Answer}
 use Rattle.record.specs.declared.steps.Step.{Step}
+use Rattle.record.specs.declared.steps.Told.{Told}
 use Rattle.record.specs.declared.series.Ran.{Ran}
 use Rattle.record.specs.declared.questions.PlaceAnswer.{PlaceAnswer}
 use Rattle.record.specs.declared.questions.GrantAnswer.{GrantAnswer}
@@ -34,7 +38,7 @@ use Rattle.record.specs.Doors.{freeDoor, freshRecord}
 use Rattle.record.specs.Kinds.{kindOf}
 use Rattle.record.specs.Table.{asked}
 use Rattle.record.specs.SoundTest.{soundB}
-use Rattle.record.specs.Steps.{First, stepOf}
+use Rattle.record.specs.Steps.{First, stepOf, toldBy}
 use Rattle.record.specs.Run.{runOf, answersOf, phasesOf, reasonsOf}
 use Rattle.record.specs.Questions.{placeOf, grantedTo, wayAnswerOf, wayWritten}
 use Rattle.site.specs.declared.read.Verdict.{Verdict}
@@ -56,6 +60,10 @@ pub record SheetUnique : Type 0 where
   pub cut-field : (s : List ℕ) (at : ℕ) → Unique (λ (x : FieldCut). x ≡ cutField s at)
   pub cut-row : (s : List ℕ) (at : ℕ) → Unique (λ (x : RowCut). x ≡ cutRow s at)
   pub count-rows : (s : List ℕ) → Unique (λ (x : Counted). x ≡ countRows s)
+  pub reader-new : (sheet : RefT (List ℕ)) → Unique (λ (x : Reader). x ≡ readerAt sheet 0)
+  pub reader-row : (reader : Reader) → Unique (λ (x : RowCut). x ≡ cutRow (now (reader .sheet)) (reader .at))
+  pub reader-past-row : (reader : Reader) → Unique (λ (x : Reader). x ≡ movedOn reader)
+  pub first-data-row : (s : List ℕ) → Unique (λ (x : RowCut). x ≡ firstDataRow s)
   pub is-word : (s : List ℕ) (cell : Cell) (word : List ℕ) → Unique (λ (x : Bool). x ≡ isWord s cell word)
   pub number-of : (s : List ℕ) (cell : Cell) → Unique (λ (x : Number). x ≡ numberAt s cell)
 
@@ -87,6 +95,9 @@ pub record RecordUnique : Type 0 where
   pub allowed-in : (k : Kind) (phase : ℕ) → Unique (λ (x : Bool). x ≡ asked k phase)
   pub step : (r : Record) (k : Kind) (d p : ℕ) → Unique (λ (x : Step). x ≡ stepOf r k d p)
   pub step-numbered : (r : Record) (n d p : ℕ) → Unique (λ (x : Step). x ≡ stepOf r (kindOf n) d p)
+  -- what is told, and the lent record at exit
+  pub step-lent : (r : Record) (k : Kind) (d p : ℕ)
+      → Unique (λ (x : Told × Record). (x .0 ≡ toldBy (stepOf r k d p)) × (x .1 ≡ stepOf r k d p .next))
   pub card : (r : Record) (d p : ℕ) → Unique (λ (x : Step). x ≡ stepOf r Card d p)
   pub decide : (r : Record) (d : ℕ) → Unique (λ (x : Step). x ≡ stepOf r Decide d 0)
   pub green : (r : Record) (d : ℕ) → Unique (λ (x : Step). x ≡ stepOf r Green d 0)

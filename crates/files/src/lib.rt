@@ -1,12 +1,13 @@
 // What the programs take from outside: sheets from files, and a number from the command line.
 ghost use Rattle.files.specs.{Asked};
 ghost use Rattle.io.specs.Counts.{Counts};
+use sheet::LIMIT;
 use sheet::cut::Cell;
 use sheet::say::Number;
 use sheet::say::number_of;
 
 // One byte more than a sheet may have, so that a longer file is seen to be longer.
-pub const ROOM: usize = 49153;
+pub const ROOM: usize = LIMIT + 1;
 
 // Puts a file's bytes at the start of a list and tells how many; a file that can't be read counts as empty.
 pub fn read_sheet<'a>(name: &'a [u8], sheet: &'a mut [u8]) -> usize

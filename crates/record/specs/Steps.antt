@@ -12,6 +12,7 @@ use Rattle.record.specs.declared.table.Kind.the-variants.{Card, Decide, 
 use Rattle.record.specs.declared.steps.Answer.{Answer}
 use Rattle.record.specs.declared.steps.Answer.the-variants.{Done, NoSuch, NotAllowed, Unsound}
 use Rattle.record.specs.declared.steps.Step.{Step}
+use Rattle.record.specs.declared.steps.Told.{Told}
 use Rattle.record.specs.Phase.{read, granted, green, walked, expired, denied, red, dimmed, closed, greenSpan, redSpan}
 use Rattle.record.specs.Doors.{door, freeDoor, doorOf, putDoor, putAt}
 use Rattle.record.specs.Kinds.{allows, namesPerson}
@@ -118,3 +119,7 @@ soundStep r k d p =
 -- A step: with an unsound record 14, and all else as above.
 unfoldable pub stepOf : Record → Kind → ℕ → ℕ → Step
 stepOf r k d p = cond (soundB r) (soundStep r k d p) (refused r Unsound 0)
+
+-- "A step answers its number, the door's phase afterwards .. and the reason": what a step tells beside the record
+abbrev pub toldBy : Step → Told
+toldBy s = record { answer = s .answer; phase = s .phase; reason = s .reason }

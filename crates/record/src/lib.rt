@@ -1,7 +1,9 @@
 // The record of people and doors: what it holds (`record`, `phase`), when it is sound (`sound`), the
-// ten steps (`table`, `steps`), the run of a list of steps (`series`) and the three questions
-// (`questions`). `lists` reads and writes the lists that are lent inside, and `grants` reads them.
+// ten steps (`table`, `steps`), the thin step on a record that is lent (`lent`), the run of a list of
+// steps (`series`) and the three questions (`questions`). `lists` reads and writes the lists that are
+// lent inside, and `grants` reads them.
 mod grants;
+mod lent;
 mod lists;
 pub mod phase;
 pub mod questions;
@@ -22,4 +24,5 @@ pub use crate::series::Ran;
 pub use crate::steps::Answer;
 pub use crate::steps::Reason;
 pub use crate::steps::Step;
+pub use crate::steps::Told;
 pub use crate::table::Kind;

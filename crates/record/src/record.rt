@@ -62,6 +62,7 @@ impl Door {
 // The tables: the counts, each door's origin and destination, each location's exit, and the rights,
 // 32 to a person. Beside them: the location of each person, and for each door its phase, the person
 // whom it holds and its countdown.
+#[repr(C)]
 pub struct Record {
     pub people: usize,
     pub locations: usize,

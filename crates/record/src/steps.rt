@@ -71,7 +71,8 @@ pub struct Step {
 }
 
 // What a step tells.
-pub(crate) struct Told {
+#[repr(C)]
+pub struct Told {
     pub answer: Answer,
     pub phase: u8,
     pub reason: u8,

@@ -5,6 +5,7 @@ ghost use lib.ListN.{length};
 ghost use lib.Seq.{sets};
 ghost use Rattle.site.specs.Site.{limit};
 ghost use Rattle.run.specs.Steps.{kindAt, personAt, lineAt, headerAt, headingOf, stepsFrom, decodedOf, mostSteps};
+use sheet::LIMIT;
 use sheet::cut::Cell;
 use sheet::cut::Cells;
 use sheet::cut::RowCut;
@@ -12,9 +13,6 @@ use sheet::cut::cut_row;
 use sheet::say::Number;
 use sheet::say::is_word;
 use sheet::say::number_of;
-
-// A sheet is at most so many bytes.
-const LIMIT: usize = 49152;
 
 // A row that is a step has eight bytes at least, so that a sheet has at most so many.
 pub const MOST_STEPS: usize = 6144;

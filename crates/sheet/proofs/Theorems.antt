@@ -18,7 +18,8 @@ use Rattle.sheet.specs.Grammar.{comma, cr, lf, Field, content, Written, 
 use Rattle.sheet.specs.Say.{ProperNumber, isWord, numberAt}
 use Rattle.sheet.specs.Cut.{emptyAt, noCells, fieldFrom, cutField, cutRow}
 use Rattle.sheet.specs.Where.{holdsQuote, cellOf, cellsOf, CellHolds}
-use Rattle.sheet.specs.Rows.{countRows}
+use Rattle.sheet.specs.Rows.{row, onRow, rowsFrom, countRows}
+use Rattle.sheet.specs.Reader.{pastRow, firstDataRow}
 use Rattle.sheet.specs.Meaning.{CutRow, SheetOf, BrokenAfter, FirstFault}
 use Rattle.sheet.proofs.Written as written
 use Rattle.sheet.proofs.Found as found
@@ -45,6 +46,16 @@ module _ (s : List ℕ) (at : ℕ) where
   -- behind the rows so far, or the sheet's length where it ends too soon.
   pub fault-is-first : {byte : ℕ} (rs : List Row) → Leads s rs (drop at s) → cutRow s at ≡ Broken byte → FirstFault s rs byte
   fault-is-first {byte} rs l e = whole.fault-first s at byte rs l e
+
+  -- A reader goes over the rows in their order: what is read from its place on is the row there, and then what is read from the
+  -- place past it.
+  pub reader-goes-on : rowsFrom s at ≡ onRow (cutRow s at) (λ _. rowsFrom s (pastRow s at))
+  reader-goes-on = reading.rows-past s at
+
+-- Behind a header that is a row, a sheet's rows go on with the first data row.
+pub data-behind-header : (s : List ℕ) {cells : Cells} {next : ℕ} → cutRow s 0 ≡ Cut cells next
+    → rowsFrom s 0 ≡ row cells (onRow (firstDataRow s) (rowsFrom s))
+data-behind-header s e = reading.rows-second s e
 
 -- Every row that the grammar can write is cut back to itself, with or without the CRLF behind it.
 pub round-trip : (r : Row) (rest : List ℕ) → WrittenRow r → cutRow (rowText r ++ (cr ∷ lf ∷ rest)) 0 ≡ Cut (cellsOf noCells 0 r) (length (rowText r ++ (cr ∷ lf ∷ rest)) - length rest)

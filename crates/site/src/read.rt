@@ -14,11 +14,9 @@ use crate::line_of;
 use record::record::Record;
 use rules::Found;
 use rules::RightFound;
+use sheet::LIMIT;
 use sheet::cut::RowCut;
 use sheet::cut::cut_row;
-
-// A sheet is at most so many bytes.
-const LIMIT: usize = 49152;
 
 // What is said of a sheet, with the place that is told.
 pub enum Verdict {
