@@ -1,8 +1,8 @@
 -- A text in a lent list: it is measured by writing it into no bytes, and written where it fits. Then the loops over the rows
 -- of the two texts. Assumes nothing.
 use Prim.Native.Nat.{ℕ, suc, _+_, _*_, _≤_, _<_}
-use mathlib.Core.Path.{_≡_, refl, ap, _∙_}
-use mathlib.Core.Bool.{Bool, true, false}
+use mathlib.Core.Path.{_≡_, refl, sym, ap, _∙_}
+use mathlib.Core.Bool.{Bool, true, false, cond}
 use mathlib.Core.List.{List, [], _∷_, _++_, append-nil}
 use native.Mathlib.Omega.{arith}
 use native.Mathlib.Numerals.{add-one}
@@ -19,22 +19,34 @@ none-written : (i : ℕ) (text : List ℕ) → sets [] i text ≡ []
 none-written i [] = refl
 none-written i (b ∷ text) = none-written (suc i) text
 
+short-list : (text out : List ℕ) → length out < length text → fits text out ≡ false
+unfolding fits
+short-list text out h = lt-leb (length text) (length out) h
+
+long-list : (text out : List ℕ) → length text ≤ length out → fits text out ≡ true
+unfolding fits
+long-list text out h = le-leb (length text) (length out) h
+
 module _ (text front out : List ℕ) {measured : ℕ} (none : front ≡ sets [] 0 text) (is : measured ≡ length text) where
   untouched : front ++ out ≡ out
   untouched = ap (λ (f : List ℕ). f ++ out) (none ∙ none-written 0 text)
 
   pub too-short : length (front ++ out) < measured → (TooShort ≡ printedOf text out) × (front ++ out ≡ written text out)
-  unfolding printedOf written fits
+  unfolding printedOf written
   too-short h =
       let same : length (front ++ out) ≡ length out = ap length untouched in
-      let s : length out < length text = omega arith in (rw (lt-leb _ _ s), untouched ∙ rw (lt-leb _ _ s))
+      let e = short-list text out (omega arith) in
+      (sym (ap (λ (b : Bool). cond b (Text (length text)) TooShort) e), untouched ∙ sym (ap (λ (b : Bool). cond b (sets out 0 text) out) e))
 
   pub fitted : {after : List ℕ} {end : ℕ} → measured ≤ length (front ++ out) → end ≡ length text → after ≡ sets (front ++ out) 0 text
       → (Text end ≡ printedOf text out) × (after ≡ written text out)
-  unfolding printedOf written fits
+  unfolding printedOf written
   fitted h e a =
       let same : length (front ++ out) ≡ length out = ap length untouched in
-      let s : length text ≤ length out = omega arith in (rw (le-leb _ _ s, e), rw (le-leb _ _ s) (a ∙ ap (λ (l : List ℕ). sets l 0 text) untouched))
+      let f = long-list text out (omega arith) in (
+        rw e (sym (ap (λ (b : Bool). cond b (Text (length text)) TooShort) f)),
+        a ∙ ap (λ (l : List ℕ). sets l 0 text) untouched ∙ sym (ap (λ (b : Bool). cond b (sets out 0 text) out) f),
+      )
 
 -- the loop over the answers has come to the one at i
 pub record Answering (answers phases reasons before : List ℕ) (at : ℕ) (out : List ℕ) (next i : ℕ) : Type 0 where

@@ -158,12 +158,6 @@ more-length n m ns =
     let d = cell-length n comma in
     omega arith
 
-pub cell-width : (n mark : ℕ) → n < 100000 → length (cell n mark) ≤ 6
-cell-width n mark h =
-    let l = cell-length n mark in
-    let f = five-digits n h in
-    omega arith
-
 pub pair-width : (a b : ℕ) → a < 100000 → b < 100000 → length (rowText a (b ∷ [])) ≤ 13
 pair-width a b h i =
     let l = more-length a b [] in

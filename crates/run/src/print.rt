@@ -2,7 +2,7 @@
 // the list's end is left out, so that a text is measured by writing it into a list of no bytes.
 ghost use mathlib.Core.Path.{_≡_};
 ghost use mathlib.Core.List.{[], _∷_};
-ghost use Prim.Native.Nat.{_+_, _<_, _^_};
+ghost use Prim.Native.Nat.{_+_, _≤_, _<_, _^_};
 ghost use lib.ListN.{length, set};
 ghost use lib.Seq.{sets};
 ghost use Rattle.run.specs.Text.{decimal, cell, rowText};
@@ -58,6 +58,7 @@ fn put_number(out: &mut [u8], at: usize, n: usize) -> usize
 fn put_cell(out: &mut [u8], at: usize, n: usize, mark: u8) -> usize
     requires { ⌜ (at < 2 ^ 61) × (n < 10 ^ 5) ⌝ }
     ensures place { λ r. ⌜ r ≡ at + length (cell n mark) ⌝ }
+    ensures near { λ r. ⌜ r ≤ at + 6 ⌝ }
     ensures out { λ _. ⌜ now (out .exit) ≡ sets (now (out .entry)) at (cell n mark) ⌝ }
 {
     let next = put_number(out, at, n);

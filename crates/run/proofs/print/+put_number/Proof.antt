@@ -32,7 +32,7 @@ pub +put-number-spec : {M : Type 1} → statement M
     (λ c κs. search needs)
     (λ c. search needs)
     (λ c.
-    let w = said (sym (decimal-short _ (c .before .before .before .before .if1 .taken))) (one (c .before .before .put .ensures .0) (c .before .before .put .ensures .1)) in
+    let w = said (sym (decimal-short _ (omega (arith, c .before .before .before .before .if1 .taken)))) (one (c .before .before .put .ensures .0) (c .before .before .put .ensures .1)) in
     (w .place, w .out))
     (λ c κs. let p = c .before .before .before .pre in (omega (arith, p .0, c .before .if1 .left), (p .1 .0, omega (arith, p .1 .1))))
     (λ c. omega arith)
@@ -45,5 +45,5 @@ pub +put-number-spec : {M : Type 1} → statement M
     (λ c.
     let e = c .before .before .before .before .before .before .put-number .ensures in
     let tenth = wrote (decimal (c .before .before .before .before .before .before .before .before .before .before .args .n / 10)) (e .0) (e .1) in
-    let w = said (sym (decimal-long _ (c .before .before .before .before .before .before .before .before .if1 .left))) (then tenth (one (c .before .before .put2 .ensures .0) (c .before .before .put2 .ensures .1))) in
+    let w = said (sym (decimal-long _ (omega (arith, c .before .before .before .before .before .before .before .before .if1 .left)))) (then tenth (one (c .before .before .put2 .ensures .0) (c .before .before .put2 .ensures .1))) in
     (w .place, w .out))

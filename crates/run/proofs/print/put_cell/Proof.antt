@@ -1,5 +1,7 @@
 -- `put_cell` meets its contract: the digits, then the byte behind them. Assumes nothing.
+use mathlib.Core.List.{[], _∷_}
 use native.Mathlib.Omega.{arith}
+use lib.ListN.{length-append}
 use Rattle.run.specs.Text.{decimal, cell}
 use Rattle.run.proofs.Writing.{wrote, one, then, five-digits}
 use borrow.Author.Needs.{needs}
@@ -18,8 +20,12 @@ same-length c = search needs
 returns : tie.Need-returns
 unfolding cell
 returns c =
-    let w = then (wrote (decimal (c .before .before .before .before .before .before .before .before .before .args .n)) (c .before .before .before .before .before .before .put-number .ensures .0) (c .before .before .before .before .before .before .put-number .ensures .1)) (one (c .before .before .put .ensures .0) (c .before .before .put .ensures .1)) in
-    (w .place, w .out)
+    let a = c .before .before .before .before .before .before .before .before .before .args in
+    let p = c .before .before .before .before .before .before .before .before .before .pre in
+    let w = then (wrote (decimal (a .n)) (c .before .before .before .before .before .before .put-number .ensures .0) (c .before .before .before .before .before .before .put-number .ensures .1)) (one (c .before .before .put .ensures .0) (c .before .before .put .ensures .1)) in
+    let few = five-digits (a .n) (p .1) in
+    let long = length-append (decimal (a .n)) (a .mark ∷ []) in
+    (w .place, (omega (arith, w .place), w .out))
 
 pub put-cell-spec : {M : Type 1} → statement M
 put-cell-spec = tie.close (tie.spec put-number-requires put-requires same-length returns)

@@ -3,7 +3,7 @@ use native.Mathlib.Omega.{arith}
 use mathlib.Core.List.{[], _∷_}
 use Rattle.sheet.specs.Grammar.{comma}
 use Rattle.run.specs.Text.{cell, rowText}
-use Rattle.run.proofs.Writing.{wrote, then, cell-width}
+use Rattle.run.proofs.Writing.{wrote, then}
 use borrow.Author.Needs.{needs}
 use Rattle.run.proofs.print.put_four.Statement.{statement}
 use Rattle.run.proofs.print.put_four.Tie as tie
@@ -12,14 +12,12 @@ put-cell-requires : tie.Need-put-cell-requires
 put-cell-requires c κs = let p = c .before .before .pre in (omega (arith, p .0), p .1)
 
 put-cell-requires-2 : tie.Need-put-cell-requires-2
-put-cell-requires-2 c κs = let p = c .before .before .before .before .before .before .pre in let few = cell-width (c .before .before .before .before .before .before .args .row) comma (p .1) in (omega (arith, c .before .before .before .put-cell .ensures .0, p .0), p .2)
+put-cell-requires-2 c κs = let p = c .before .before .before .before .before .before .pre in (omega (arith, c .before .before .before .put-cell .ensures .1 .0, p .0), p .2)
 
 put-pair-requires : tie.Need-put-pair-requires
 put-pair-requires c κs =
     let p = c .before .before .before .before .before .before .before .before .before .before .pre in
-    let few = cell-width (c .before .before .before .before .before .before .before .before .before .before .args .row) comma (p .1) in
-    let more = cell-width (c .before .before .before .before .before .before .before .before .before .before .args .answer) comma (p .2) in
-    (omega (arith, c .before .before .before .before .before .before .before .put-cell .ensures .0, c .before .before .before .put-cell2 .ensures .0, p .0), p .3, p .4)
+    (omega (arith, c .before .before .before .before .before .before .before .put-cell .ensures .1 .0, c .before .before .before .put-cell2 .ensures .1 .0, p .0), p .3, p .4)
 
 same-length : tie.Need-same-length
 same-length c = search needs
@@ -28,8 +26,8 @@ returns : tie.Need-returns
 unfolding rowText
 returns c =
     let a = c .before .before .before .before .before .before .before .before .before .before .before .before .before .args in
-    let x = wrote (cell (a .row) comma) (c .before .before .before .before .before .before .before .before .before .before .put-cell .ensures .0) (c .before .before .before .before .before .before .before .before .before .before .put-cell .ensures .1) in
-    let y = wrote (cell (a .answer) comma) (c .before .before .before .before .before .before .put-cell2 .ensures .0) (c .before .before .before .before .before .before .put-cell2 .ensures .1) in
+    let x = wrote (cell (a .row) comma) (c .before .before .before .before .before .before .before .before .before .before .put-cell .ensures .0) (c .before .before .before .before .before .before .before .before .before .before .put-cell .ensures .1 .1) in
+    let y = wrote (cell (a .answer) comma) (c .before .before .before .before .before .before .put-cell2 .ensures .0) (c .before .before .before .before .before .before .put-cell2 .ensures .1 .1) in
     let z = wrote (rowText (a .phase) (a .reason ∷ [])) (c .before .before .put-pair .ensures .0) (c .before .before .put-pair .ensures .1) in
     let w = then x (then y z) in
     (w .place, w .out)

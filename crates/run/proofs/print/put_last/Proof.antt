@@ -2,7 +2,7 @@
 use native.Mathlib.Omega.{arith}
 use Rattle.sheet.specs.Grammar.{cr}
 use Rattle.run.specs.Text.{cell, rowText}
-use Rattle.run.proofs.Writing.{wrote, one, then, cell-width}
+use Rattle.run.proofs.Writing.{wrote, one, then}
 use borrow.Author.Needs.{needs}
 use Rattle.run.proofs.print.put_last.Statement.{statement}
 use Rattle.run.proofs.print.put_last.Tie as tie
@@ -11,7 +11,7 @@ put-cell-requires : tie.Need-put-cell-requires
 put-cell-requires c κs = search needs
 
 put-requires : tie.Need-put-requires
-put-requires c κs = let p = c .before .before .before .before .before .before .pre in let few = cell-width (c .before .before .before .before .before .before .args .n) cr (p .1) in omega (arith, c .before .before .before .put-cell .ensures .0, p .0)
+put-requires c κs = omega (arith, c .before .before .before .put-cell .ensures .1 .0, c .before .before .before .before .before .before .pre .0)
 
 same-length : tie.Need-same-length
 same-length c = search needs
@@ -19,7 +19,7 @@ same-length c = search needs
 returns : tie.Need-returns
 unfolding rowText
 returns c =
-    let w = then (wrote (cell (c .before .before .before .before .before .before .before .before .before .args .n) cr) (c .before .before .before .before .before .before .put-cell .ensures .0) (c .before .before .before .before .before .before .put-cell .ensures .1)) (one (c .before .before .put .ensures .0) (c .before .before .put .ensures .1)) in
+    let w = then (wrote (cell (c .before .before .before .before .before .before .before .before .before .args .n) cr) (c .before .before .before .before .before .before .put-cell .ensures .0) (c .before .before .before .before .before .before .put-cell .ensures .1 .1)) (one (c .before .before .put .ensures .0) (c .before .before .put .ensures .1)) in
     (w .place, w .out)
 
 pub put-last-spec : {M : Type 1} → statement M

@@ -3,7 +3,7 @@ use native.Mathlib.Omega.{arith}
 use mathlib.Core.List.{[]}
 use Rattle.sheet.specs.Grammar.{comma}
 use Rattle.run.specs.Text.{cell, rowText}
-use Rattle.run.proofs.Writing.{wrote, then, cell-width}
+use Rattle.run.proofs.Writing.{wrote, then}
 use borrow.Author.Needs.{needs}
 use Rattle.run.proofs.print.put_pair.Statement.{statement}
 use Rattle.run.proofs.print.put_pair.Tie as tie
@@ -12,7 +12,7 @@ put-cell-requires : tie.Need-put-cell-requires
 put-cell-requires c κs = let p = c .before .before .pre in (omega (arith, p .0), p .1)
 
 put-last-requires : tie.Need-put-last-requires
-put-last-requires c κs = let p = c .before .before .before .before .before .before .pre in let few = cell-width (c .before .before .before .before .before .before .args .person) comma (p .1) in (omega (arith, c .before .before .before .put-cell .ensures .0, p .0), p .2)
+put-last-requires c κs = let p = c .before .before .before .before .before .before .pre in (omega (arith, c .before .before .before .put-cell .ensures .1 .0, p .0), p .2)
 
 same-length : tie.Need-same-length
 same-length c = search needs
@@ -20,7 +20,7 @@ same-length c = search needs
 returns : tie.Need-returns
 unfolding rowText
 returns c =
-    let w = then (wrote (cell (c .before .before .before .before .before .before .before .before .before .args .person) comma) (c .before .before .before .before .before .before .put-cell .ensures .0) (c .before .before .before .before .before .before .put-cell .ensures .1)) (wrote (rowText (c .before .before .before .before .before .before .before .before .before .args .location) []) (c .before .before .put-last .ensures .0) (c .before .before .put-last .ensures .1)) in
+    let w = then (wrote (cell (c .before .before .before .before .before .before .before .before .before .args .person) comma) (c .before .before .before .before .before .before .put-cell .ensures .0) (c .before .before .before .before .before .before .put-cell .ensures .1 .1)) (wrote (rowText (c .before .before .before .before .before .before .before .before .before .args .location) []) (c .before .before .put-last .ensures .0) (c .before .before .put-last .ensures .1)) in
     (w .place, w .out)
 
 pub put-pair-spec : {M : Type 1} → statement M

@@ -1,6 +1,9 @@
 -- `heading_of` meets its contract: the length, then the first row. Assumes nothing.
 use mathlib.Core.Path.{sym, _∙_}
 use borrow.Author.Tests.{not-true, not-false, lt-ltb, le-ltb}
+use native.Mathlib.Omega.{arith}
+use lib.ListN.{length}
+use Rattle.site.specs.Site.{limit}
 use Rattle.run.specs.Steps.{headingOf}
 use borrow.Author.Needs.{needs}
 use Rattle.run.proofs.steps.heading_of.Statement.{statement}
@@ -8,7 +11,7 @@ use Rattle.run.proofs.steps.heading_of.Tie as tie
 
 returns : tie.Need-returns
 unfolding headingOf
-returns c = rw (lt-ltb _ _ (c .if1 .taken))
+returns c = rw (lt-ltb limit (length (c .before .before .args .s .now)) (omega (arith, c .if1 .taken)))
 
 cut-row-requires : tie.Need-cut-row-requires
 cut-row-requires c κs = search needs
@@ -21,7 +24,7 @@ is-header-requires c κs = search needs
 
 returns-2 : tie.Need-returns-2
 unfolding headingOf
-returns-2 c = rw (le-ltb _ _ (c .before .before .before .before .before .before .if1 .left), sym (c .before .before .before .before .before .cut-row .ensures) ∙ c .before .before .before .cells .given .1, sym (c .before .is-header .ensures) ∙ not-true _ (c .if2 .taken))
+returns-2 c = rw (le-ltb limit (length (c .before .before .before .before .before .before .before .before .args .s .now)) (omega (arith, c .before .before .before .before .before .before .if1 .left)), sym (c .before .before .before .before .before .cut-row .ensures) ∙ c .before .before .before .cells .given .1, sym (c .before .is-header .ensures) ∙ not-true _ (c .if2 .taken))
 
 enum-told : tie.Need-enum-told
 enum-told c = search needs
@@ -31,15 +34,15 @@ enum-told-2 c = search needs
 
 returns-3 : tie.Need-returns-3
 unfolding headingOf
-returns-3 c = rw (le-ltb _ _ (c .before .before .before .before .before .before .if1 .left), sym (c .before .before .before .before .before .cut-row .ensures) ∙ c .before .before .before .cells .given .1, sym (c .before .is-header .ensures) ∙ not-false _ (c .if2 .left))
+returns-3 c = rw (le-ltb limit (length (c .before .before .before .before .before .before .before .before .args .s .now)) (omega (arith, c .before .before .before .before .before .before .if1 .left)), sym (c .before .before .before .before .before .cut-row .ensures) ∙ c .before .before .before .cells .given .1, sym (c .before .is-header .ensures) ∙ not-false _ (c .if2 .left))
 
 returns-4 : tie.Need-returns-4
 unfolding headingOf
-returns-4 c = rw (le-ltb _ _ (c .before .before .before .if1 .left), sym (c .before .before .cut-row .ensures) ∙ c .enum-told .given .1)
+returns-4 c = rw (le-ltb limit (length (c .before .before .before .before .before .args .s .now)) (omega (arith, c .before .before .before .if1 .left)), sym (c .before .before .cut-row .ensures) ∙ c .enum-told .given .1)
 
 returns-5 : tie.Need-returns-5
 unfolding headingOf
-returns-5 c = rw (le-ltb _ _ (c .before .before .before .if1 .left), sym (c .before .before .cut-row .ensures) ∙ c .enum-told2 .given .1)
+returns-5 c = rw (le-ltb limit (length (c .before .before .before .before .before .args .s .now)) (omega (arith, c .before .before .before .if1 .left)), sym (c .before .before .cut-row .ensures) ∙ c .enum-told2 .given .1)
 
 pub heading-of-spec : {M : Type 1} → statement M
 heading-of-spec =
