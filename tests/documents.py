@@ -60,23 +60,35 @@ def rows(page, crate):
     for line in part.group(1).splitlines():
         cells = [cell.strip() for cell in line.strip().strip("|").split(" | ")]
         name = re.match(r"`([A-Za-z_:0-9]+)`", cells[0])
-        if line.startswith("|") and name:
+        if line.startswith("|") and name and len(cells) == 4:
             yield name.group(1), (cells[-2], cells[-1])
+
+
+def edits_of(crate):
+    """The must-fail edits of a crate."""
+    folder = os.path.join("crates", crate, "must-fail")
+    return {n[:-5] for n in os.listdir(folder)} if os.path.isdir(folder) else set()
+
+
+def check_edits(listed):
+    """The name of a must-fail edit is unique over all crates, so that a document needn't say in which it stands."""
+    names = [edit for crate in listed for edit in edits_of(crate)]
+    for name in sorted({n for n in names if names.count(n) > 1}):
+        faults.append(f"two crates have a must-fail edit {name}")
 
 
 def check_promises(listed):
     page = read("docs", "PROMISES.md")
+    # a promise may cite a definition of another crate, whose edits then count too
+    counted = set().union(*map(edits_of, listed))
     for crate in listed:
         functions = list(public_functions(crate))
-        folder = os.path.join("crates", crate, "must-fail")
-        edits = {n[:-5] for n in os.listdir(folder)} if os.path.isdir(folder) else set()
-        named = set()
+        edits = edits_of(crate)
         promised = {}
         if functions:
             promised = dict(rows(page, crate))
         for name, (count, last) in promised.items():
-            wrong = set(re.findall(r"`([A-Za-z_0-9]+)`", last)) & edits
-            named |= wrong
+            wrong = set(re.findall(r"`([A-Za-z_0-9]+)`", last)) & counted
             if name not in functions:
                 faults.append(f"docs/PROMISES.md names {crate}::{name}, which is not there")
             if count != str(len(wrong)):
@@ -108,6 +120,7 @@ def check_paths():
 
 def main():
     listed = crates()
+    check_edits(listed)
     check_promises(listed)
     check_map(listed)
     check_paths()

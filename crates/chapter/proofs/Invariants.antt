@@ -8,13 +8,13 @@ use native.Mathlib.Omega.{arith}
 use borrow.Author.Tests.{eqb-true, eqb-false, ne-eqb, leb-true, le-leb, not-true}
 use lib.ListN.{getD}
 use lib.Dec.{eqb, lit≤}
-use Rattle.rules.specs.Tables.{mayBe, orElse, andAlso}
-use Rattle.rules.proofs.Laws.{and-left, and-right, and-both}
+use Rattle.tables.specs.Tables.{mayBe, orElse, andAlso}
+use Rattle.tables.proofs.Laws.{and-left, and-right, and-both}
 use Rattle.record.specs.declared.record.Record.{Record}
-use Rattle.record.specs.Phase.{free, read, granted, green, walked, expired, denied, red, dimmed, closed, keeps, grants}
-use Rattle.record.specs.Grants.{GrantAt}
+use Rattle.door.specs.Phase.{free, read, granted, green, walked, expired, denied, red, dimmed, closed, keeps, grants}
+use Rattle.sound.specs.Grants.{GrantAt}
 use Rattle.record.specs.Sound.{Sound}
-use Rattle.record.proofs.Cases.{same-or-not, below-or-not, one-of}
+use Rattle.sound.proofs.Cases.{same-or-not, below-or-not, one-of}
 use Rattle.record.proofs.Right.{grants-keeps}
 use Rattle.chapter.specs.Sets.{dom, _∪_}
 use Rattle.chapter.specs.Reading.{constantsOf, isIn, DoorIn, CardAt, stateOf, stateOf3, stateOf2, stateOf1}

@@ -7,18 +7,18 @@ use mathlib.Core.List.{List}
 use native.Mathlib.Omega.{arith}
 use borrow.Author.Tests.{eqb-true, eq-eqb}
 use lib.ListN.{getD}
-use Rattle.rules.specs.Tables.{orElse, andAlso}
-use Rattle.record.specs.declared.record.Door.{Door}
+use Rattle.tables.specs.Tables.{orElse, andAlso}
+use Rattle.door.specs.declared.Door.{Door}
 use Rattle.record.specs.declared.record.Record.{Record}
-use Rattle.record.specs.declared.table.Kind.{Kind}
-use Rattle.record.specs.declared.table.Kind.the-variants.{Decide}
-use Rattle.record.specs.declared.steps.Answer.the-variants.{Done}
-use Rattle.record.specs.Phase.{free, read, grants, keeps}
+use Rattle.door.specs.declared.table.Kind.{Kind}
+use Rattle.door.specs.declared.table.Kind.the-variants.{Decide}
+use Rattle.door.specs.declared.answer.Answer.the-variants.{Done}
+use Rattle.door.specs.Phase.{free, read, grants, keeps}
 use Rattle.record.specs.Doors.{freshRecord, Shaped}
-use Rattle.record.specs.Kinds.{allows, numberOfKind}
+use Rattle.door.specs.Kinds.{allows, numberOfKind}
 use Rattle.record.specs.Sound.{Sound}
 use Rattle.record.specs.Steps.{First, stepOf}
-use Rattle.record.proofs.Cases.{same-or-not}
+use Rattle.sound.proofs.Cases.{same-or-not}
 use Rattle.record.proofs.Laws.{Allowed, done-did, denied-first}
 use Rattle.record.proofs.Fresh.{fresh-free, fresh-outside}
 use Rattle.chapter.specs.Sets.{dom, _∪_}

@@ -6,19 +6,21 @@ use mathlib.Core.Logic.{_⊎_, inl, inr, ⊎-elim, _↔_}
 use borrow.Author.Tests.{eqb-true, eqb-false, eq-eqb, ne-eqb, ltb-true, ltb-false, lt-ltb, le-ltb}
 use lib.ListN.{getD}
 use lib.Dec.{eqb, ltb}
-use Rattle.rules.specs.Tables.{orElse, andAlso}
-use Rattle.record.specs.declared.record.Door.{Door}
+use Rattle.tables.specs.Tables.{orElse, andAlso}
+use Rattle.door.specs.declared.Door.{Door}
 use Rattle.record.specs.declared.record.Record.{Record}
-use Rattle.record.specs.declared.table.Kind.{Kind}
-use Rattle.record.specs.declared.table.Kind.the-variants.{Card, Decide, Green, Red, Walk, Tick, Passed, Lapsed, Dark, Ack, Unknown}
-use Rattle.record.specs.declared.steps.Answer.the-variants.{Done}
-use Rattle.record.specs.Phase.{free, read, granted, green, walked, expired, denied, red, dimmed, closed, grants, keeps}
-use Rattle.record.specs.Doors.{door, doorOf, freeDoor, Shaped}
-use Rattle.record.specs.Kinds.{allows, namesPerson, numberOfKind}
-use Rattle.record.specs.Grants.{GrantAt}
+use Rattle.door.specs.declared.table.Kind.{Kind}
+use Rattle.door.specs.declared.table.Kind.the-variants.{Card, Decide, Green, Red, Walk, Tick, Passed, Lapsed, Dark, Ack, Unknown}
+use Rattle.door.specs.declared.answer.Answer.the-variants.{Done}
+use Rattle.door.specs.Phase.{free, read, granted, green, walked, expired, denied, red, dimmed, closed, grants, keeps}
+use Rattle.door.specs.Door.{door, freeDoor}
+use Rattle.record.specs.Doors.{doorOf, Shaped}
+use Rattle.door.specs.Kinds.{allows, namesPerson, numberOfKind}
+use Rattle.sound.specs.Grants.{GrantAt}
 use Rattle.record.specs.Sound.{Sound}
-use Rattle.record.specs.Steps.{reasonFor, Admitted, doing, effect, stepOf}
-use Rattle.record.proofs.Cases.{same-or-not, one-of}
+use Rattle.door.specs.Does.{effect}
+use Rattle.record.specs.Steps.{reasonFor, Admitted, doing, stepOf}
+use Rattle.sound.proofs.Cases.{same-or-not, one-of}
 use Rattle.record.proofs.Tells.{sound-tells}
 use Rattle.record.proofs.Right.{admitted, admits}
 use Rattle.record.proofs.Laws.{Allowed, allowed-does, act-done, done-did, tables-stay, others-stay, places-stay, passed-moves, becomes, door-after, tick-done}

@@ -21,11 +21,11 @@ use mathlib.Core.Bool.{Bool}
 use mathlib.Core.Logic.{_⊎_, inl, ⊎-elim, _↔_}
 use mathlib.Core.List.{List}
 use lib.ListN.{getD}
-use Rattle.rules.specs.Way.{wayOf}
+use Rattle.tables.specs.Way.{wayOf}
 use Rattle.record.specs.declared.record.Record.{Record}
-use Rattle.record.specs.declared.table.Kind.{Kind}
-use Rattle.record.specs.declared.table.Kind.the-variants.{Decide}
-use Rattle.record.specs.declared.steps.Answer.the-variants.{Done}
+use Rattle.door.specs.declared.table.Kind.{Kind}
+use Rattle.door.specs.declared.table.Kind.the-variants.{Decide}
+use Rattle.door.specs.declared.answer.Answer.the-variants.{Done}
 use Rattle.record.specs.Doors.{Tables, freshRecord, Shaped}
 use Rattle.record.specs.Sound.{Sound}
 use Rattle.record.specs.Steps.{stepOf}

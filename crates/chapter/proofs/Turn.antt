@@ -6,12 +6,12 @@ use mathlib.Core.Bool.{Bool, true, false, cond, false≢true}
 use mathlib.Core.Logic.{_⊎_, inl, inr, ⊎-elim, _↔_, Iff·symm, Iff·trans}
 use borrow.Author.Tests.{eqb-true, eq-eqb}
 use lib.Dec.{eqb}
-use Rattle.record.specs.declared.record.Door.{Door}
+use Rattle.door.specs.declared.Door.{Door}
 use Rattle.record.specs.declared.record.Record.{Record}
-use Rattle.record.specs.Phase.{read, grants}
+use Rattle.door.specs.Phase.{read, grants}
 use Rattle.record.specs.Doors.{Tables, tablesOf, doorOf}
-use Rattle.record.specs.Grants.{GrantAt}
-use Rattle.record.proofs.Cases.{same-or-not}
+use Rattle.sound.specs.Grants.{GrantAt}
+use Rattle.sound.proofs.Cases.{same-or-not}
 use Rattle.chapter.specs.Sets.{Set, Relation, only, _∪_, _∖_, _≐_}
 use Rattle.chapter.specs.Reading.{isIn, DoorIn, CardAt}
 use Rattle.chapter.specs.M4.{Sets, setNo, BLR, mAckn, mAccept, GRN, mPass, mOff-grn, mRefuse, RED, mOff-red}

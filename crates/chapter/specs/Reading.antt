@@ -6,14 +6,14 @@ use mathlib.Core.Bool.{Bool, true, not}
 use mathlib.Core.List.{List}
 use lib.ListN.{getD}
 use lib.Dec.{eqb}
-use Rattle.rules.specs.Tables.{mayBe, orElse}
-use Rattle.rules.specs.Rules.{DoorFrom}
+use Rattle.tables.specs.Tables.{mayBe, orElse}
+use Rattle.tables.specs.Rules.{DoorFrom}
 use Rattle.record.specs.declared.record.Record.{Record}
-use Rattle.record.specs.declared.table.Kind.{Kind}
-use Rattle.record.specs.declared.table.Kind.the-variants.{Card, Decide, Green, Red, Walk, Tick, Passed, Lapsed, Dark, Ack}
-use Rattle.record.specs.Phase.{free, read, granted, green, walked, expired, denied, red, dimmed, closed}
+use Rattle.door.specs.declared.table.Kind.{Kind}
+use Rattle.door.specs.declared.table.Kind.the-variants.{Card, Decide, Green, Red, Walk, Tick, Passed, Lapsed, Dark, Ack}
+use Rattle.door.specs.Phase.{free, read, granted, green, walked, expired, denied, red, dimmed, closed}
 use Rattle.record.specs.Doors.{Tables, tablesOf}
-use Rattle.record.specs.Grants.{GrantAt}
+use Rattle.sound.specs.Grants.{GrantAt}
 use Rattle.record.specs.Run.{Row, lastOf}
 use Rattle.chapter.specs.Sets.{dom}
 use Rattle.chapter.specs.Context.{Constants}

@@ -4,10 +4,10 @@ use mathlib.Core.Path.{_≡_, refl, sym, subst}
 use mathlib.Core.List.{List}
 use Rattle.record.specs.declared.record.Record.{Record}
 use Rattle.record.specs.Doors.{freshRecord}
-use Rattle.site.specs.declared.read.Verdict.the-variants.{Accepted}
-use Rattle.site.specs.Site.{siteOf}
-use Rattle.site.proofs.Theorems.{accepted-holds}
-use Rattle.demands.specs.Served.{Fresh}
+use Rattle.verdict.specs.declared.Verdict.the-variants.{Accepted}
+use Rattle.says.specs.Site.{siteOf}
+use Rattle.says.proofs.Theorems.{accepted-holds}
+use Rattle.serving.specs.Served.{Fresh}
 
 -- the record of an accepted sheet is fresh
 pub accepted-fresh : (s : List ℕ) → siteOf s .verdict ≡ Accepted → Fresh (siteOf s .«record»)

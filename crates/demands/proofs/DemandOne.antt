@@ -6,71 +6,75 @@ use mathlib.Core.List.{List, [], _∷_}
 use mathlib.Core.Logic.{_⊎_, inl, inr, ⊎-elim}
 use native.Mathlib.Nat.{add-sub-of-le}
 use native.Mathlib.Omega.{arith}
-use borrow.Author.Tests.{ne-eqb, le-ltb, ltb-true, ltb-false, lt-ltb, le-leb, lt-leb, leb-true}
+use borrow.Author.Tests.{eqb-true, ne-eqb, le-ltb, ltb-true, ltb-false, lt-ltb, le-leb, lt-leb, leb-true}
 use denote.Ref.{now}
 use lib.ListN.{length, getD, drop, length-drop, length-append}
 use lib.Dec.{eqb, ltb, leb}
-use Rattle.sheet.specs.declared.cut.Cell.{Cell}
-use Rattle.sheet.specs.declared.cut.Mode.the-variants.{Fresh}
-use Rattle.sheet.specs.declared.cut.FieldCut.{FieldCut}
-use Rattle.sheet.specs.declared.cut.FieldCut.the-variants.{Next, Last, Fault}
-use Rattle.sheet.specs.declared.cut.RowCut.{RowCut}
-use Rattle.sheet.specs.declared.cut.RowCut.the-variants.{Cut, NoRow, Broken}
-use Rattle.sheet.specs.declared.say.Number.the-variants.{Is, None}
-use Rattle.sheet.specs.Grammar.{Field, bare, quoted, fieldText, comma, cr, lf}
-use Rattle.sheet.specs.Cut.{emptyAt, cutField, cutRow}
-use Rattle.sheet.specs.Where.{cellOf, CellHolds}
-use Rattle.sheet.specs.Reader.{past, pastRow}
-use Rattle.sheet.specs.Rows.{onRow, readRows, rowsFrom, countFrom, countRows}
-use Rattle.sheet.specs.Say.{valueFrom, ProperNumber, contentAt, sameBytes, isWord, numberAt}
-use Rattle.sheet.specs.Say as say
-use Rattle.sheet.proofs.Steps.{FieldIn, field-in, cut-within}
-use Rattle.sheet.proofs.Found.{FieldFound, with-crlf, with-sheet}
-use Rattle.sheet.proofs.Reading.{cut-behind, cut-there}
-use Rattle.sheet.proofs.Saying.{same-true, read-proper}
-use Rattle.sheet.proofs.Theorems.{found-is-row, found-is-field, field-before-comma, field-before-crlf, field-before-end}
-use Rattle.rules.specs.Tables.{orElse, andAlso, mayBe, mostLocations}
-use Rattle.rules.specs.Below.{Tells}
-use Rattle.rules.specs.declared.Found.{Found}
-use Rattle.rules.specs.declared.Found.the-variants.{At, Nothing}
-use Rattle.rules.specs.declared.RightFound.{RightFound}
-use Rattle.rules.specs.declared.RightFound.the-variants as pair
-use Rattle.rules.specs.Tests.{lacksExit, firstNoExit, strays, firstStray, lacksDoor, firstNoDoor, firstNoRight, shutOut, firstShutOut, countsFit, inRange, lawfulB}
-use Rattle.rules.specs.Way.{wayOf, ifRoom, told, written}
-use Rattle.rules.proofs.Laws.{and-left, and-right, and-both, clash, least-at, may-be-outside, tell-le, tell-and, tell-as}
-use Rattle.rules.proofs.Answers.{in-range-tells, rule-9, lawful-tells}
-use Rattle.rules.proofs.WayOut.{way-at-most-31}
+use Rattle.grammar.specs.declared.cut.Cell.{Cell}
+use Rattle.grammar.specs.declared.cut.Cells.{Cells}
+use Rattle.grammar.specs.declared.cut.Mode.the-variants.{Fresh}
+use Rattle.grammar.specs.declared.cut.FieldCut.{FieldCut}
+use Rattle.grammar.specs.declared.cut.FieldCut.the-variants.{Next, Last, Fault}
+use Rattle.grammar.specs.declared.cut.RowCut.{RowCut}
+use Rattle.grammar.specs.declared.cut.RowCut.the-variants.{Cut, NoRow, Broken}
+use Rattle.grammar.specs.declared.say.Number.the-variants.{Is, None}
+use Rattle.grammar.specs.Grammar.{Field, bare, quoted, fieldText, comma, cr, lf}
+use Rattle.grammar.specs.Cut.{emptyAt, cutField, cutRow}
+use Rattle.grammar.specs.Where.{cellOf, CellHolds}
+use Rattle.grammar.specs.Past.{past, pastRow}
+use Rattle.grammar.specs.Rows.{onRow, readRows, rowsFrom, countFrom, countRows}
+use Rattle.grammar.specs.Say.{valueFrom, ProperNumber, contentAt, sameBytes, isWord, saysWords, numberAt}
+use Rattle.grammar.specs.Say as say
+use Rattle.grammar.proofs.Steps.{FieldIn, field-in, cut-within}
+use Rattle.grammar.proofs.Found.{FieldFound, with-crlf, with-sheet}
+use Rattle.grammar.proofs.Reading.{cut-behind, cut-there}
+use Rattle.grammar.proofs.Saying.{same-true, read-proper}
+use Rattle.grammar.proofs.Theorems.{found-is-row, found-is-field, field-before-comma, field-before-crlf, field-before-end}
+use Rattle.tables.specs.Tables.{orElse, andAlso, mayBe, mostLocations}
+use Rattle.tables.specs.Below.{Tells}
+use Rattle.tables.specs.declared.Found.{Found}
+use Rattle.tables.specs.declared.Found.the-variants.{At, Nothing}
+use Rattle.tables.specs.declared.RightFound.{RightFound}
+use Rattle.tables.specs.declared.RightFound.the-variants as pair
+use Rattle.tables.specs.Tests.{lacksExit, firstNoExit, strays, firstStray, lacksDoor, firstNoDoor, firstNoRight, shutOut, firstShutOut, countsFit, inRange, lawfulB}
+use Rattle.tables.specs.Way.{wayOf, ifRoom, told, written}
+use Rattle.tables.proofs.Laws.{and-left, and-right, and-both, clash, least-at, may-be-outside, tell-le, tell-and, tell-as}
+use Rattle.tables.proofs.Answers.{in-range-tells, rule-9, lawful-tells}
+use Rattle.tables.proofs.WayOut.{way-at-most-31}
 use Rattle.record.specs.declared.record.Record.{Record}
-use Rattle.record.specs.declared.table.Kind.{Kind}
-use Rattle.record.specs.declared.table.Kind.the-variants.{Card, Decide, Green, Red, Walk, Tick, Passed, Lapsed, Dark, Ack, Unknown}
-use Rattle.record.specs.declared.record.Door.{Door}
-use Rattle.record.specs.declared.steps.Answer.{Answer}
-use Rattle.record.specs.declared.steps.Answer.the-variants.{Done, NoSuch, NotAllowed, TooShort, Unsound}
-use Rattle.record.specs.Answers.{numberOf}
-use Rattle.record.specs.Phase.{green, denied, red}
+use Rattle.door.specs.declared.table.Kind.{Kind}
+use Rattle.door.specs.declared.table.Kind.the-variants.{Card, Decide, Green, Red, Walk, Tick, Passed, Lapsed, Dark, Ack, Unknown}
+use Rattle.door.specs.declared.Door.{Door}
+use Rattle.door.specs.declared.answer.Answer.{Answer}
+use Rattle.door.specs.declared.answer.Answer.the-variants.{NoSuch, NotAllowed, Unsound}
+use Rattle.door.specs.Answers.{numberOf}
+use Rattle.door.specs.Phase.{green, denied, red}
 use Rattle.record.specs.Doors.{doorOf, Shaped}
-use Rattle.record.specs.Grants.{grantOf}
-use Rattle.record.specs.Kinds.{kindOf, allows, namesPerson}
+use Rattle.sound.specs.Grants.{grantOf}
+use Rattle.door.specs.Kinds.{kindOf, allows, namesPerson}
+use Rattle.sound.specs.SoundTest.{listsSound}
 use Rattle.record.specs.SoundTest.{soundB}
-use Rattle.record.specs.Steps.{reasonFor, Does, stays, turns, moves, effect, act, refused, doing, exist, soundStep, stepOf}
+use Rattle.door.specs.declared.does.Does.{Does}
+use Rattle.door.specs.declared.does.Does.the-variants.{Stays, Turns, Moves}
+use Rattle.door.specs.Does.{effect}
+use Rattle.record.specs.Steps.{reasonFor, act, refused, doing, exist, soundStep, stepOf}
 use Rattle.record.specs.Run.{roomFor, roomIn, ranOf, tellingOf}
 use Rattle.record.specs.Questions.{placeOf, grantFound, grantedTo, grantNumber, grantTold, wayAnswerOf, wayWritten}
-use Rattle.record.proofs.Cases.{either}
+use Rattle.sound.proofs.Cases.{either}
 use Rattle.record.proofs.Keep.{put-same}
-use Rattle.record.proofs.Entries.{table-allows}
 use Rattle.record.proofs.Fresh.{fresh-sound}
 use Rattle.record.proofs.Tells.{sound-tells}
 use Rattle.record.proofs.Laws.{act-done}
-use Rattle.site.specs.declared.read.Verdict.{Verdict}
-use Rattle.site.specs.declared.read.Verdict.the-variants.{Accepted, TooLong, BadRow, OutOfRange, Twice, NoSite, NoExit, Stray, NoDoor, NoRight, ShutOut}
-use Rattle.site.specs.declared.read.SiteRead.{SiteRead}
-use Rattle.site.specs.declared.read.Reading.{Reading}
-use Rattle.site.specs.declared.Draft.{Draft}
-use Rattle.site.specs.Line.{headerAt}
-use Rattle.site.specs.Site.{limit, soundFault, firstPlace, secondPlace, blankRecord, acceptedSite, unlessFound, unlessPair, judged, settled, afterHeader, siteOf}
-use Rattle.site.specs.Site as site
-use Rattle.site.proofs.Theorems.{given-exactly}
-use Rattle.demands.specs.DemandOne.{Told, OneOf, Within, Lies, FieldTold, RowTold, CountTold, SheetAnswers, WayTells, RulesAnswers}
+use Rattle.verdict.specs.declared.Verdict.{Verdict}
+use Rattle.verdict.specs.declared.Verdict.the-variants.{Accepted, TooLong, BadRow, OutOfRange, Twice, NoSite, NoExit, Stray, NoDoor, NoRight, ShutOut}
+use Rattle.says.specs.declared.SiteRead.{SiteRead}
+use Rattle.says.specs.declared.Reading.{Reading}
+use Rattle.says.specs.declared.Draft.{Draft}
+use Rattle.says.specs.Line.{headerAt}
+use Rattle.says.specs.Site.{limit, soundFault, firstPlace, secondPlace, blankRecord, acceptedSite, unlessFound, unlessPair, judged, settled, afterHeader, siteOf}
+use Rattle.says.specs.Site as site
+use Rattle.says.proofs.Theorems.{given-exactly}
+use Rattle.demands.specs.DemandOne.{Told, Within, Lies, FieldTold, RowTold, CountTold, SheetAnswers, WayTells, RulesAnswers}
 use Rattle.demands.specs.DemandOne.{Exists, stepOrder, StepTells, Room, RunTells, PlaceTells, GrantTells, WayOutTells, RecordAnswers, SiteTells, SiteAnswers}
 
 -- ---- crate `sheet`
@@ -183,6 +187,19 @@ word-told s cell word = go (cell .doubled)
     go true e = absurd (false≢true e)
     go false e = same-true (contentAt s cell) word e
 
+words-told : (s : List ℕ) (cells : Cells) (x y z : List ℕ) → saysWords s cells x y z ≡ true
+    → (cells .count ≡ 3) × (contentAt s (cells .first) ≡ x) × (contentAt s (cells .second) ≡ y) × (contentAt s (cells .third) ≡ z)
+unfolding saysWords
+words-told s cells x y z = go (eqb (cells .count) 3) refl (isWord s (cells .first) x) refl (isWord s (cells .second) y) refl
+  where
+    go : (a : Bool) → eqb (cells .count) 3 ≡ a → (b : Bool) → isWord s (cells .first) x ≡ b → (c : Bool) → isWord s (cells .second) y ≡ c
+        → cond a (cond b (cond c (isWord s (cells .third) z) false) false) false ≡ true
+        → (cells .count ≡ 3) × (contentAt s (cells .first) ≡ x) × (contentAt s (cells .second) ≡ y) × (contentAt s (cells .third) ≡ z)
+    go true p true q true r e = (eqb-true (cells .count) 3 p, word-told s _ x q, word-told s _ y r, word-told s _ z e)
+    go true p true q false r e = absurd (false≢true e)
+    go true p false q c r e = absurd (false≢true e)
+    go false p b q c r e = absurd (false≢true e)
+
 -- a reader moves on within its sheet, or stays
 past-within : (s : List ℕ) (at : ℕ) → at ≤ length s → (cut : RowCut) → cutRow s at ≡ cut → Within s at (past cut at)
 unfolding past
@@ -201,6 +218,7 @@ of-sheet =
       reader-past-row = λ reader h. past-within (now (reader .sheet)) (reader .at) h (cutRow (now (reader .sheet)) (reader .at)) refl;
       first-data-row = λ s. row-told s (pastRow s 0) _ refl;
       is-word = word-told;
+      says-words = words-told;
       number-of = number-small;
     }
 
@@ -259,9 +277,9 @@ exist-tells r k d p =
 -- the phase that a step tells is the door's afterwards
 act-phase : (r : Record) → Shaped r → (d : ℕ) → d < 64 → (x : Does) → act r d x .phase ≡ getD (act r d x .next .phase) d 0
 unfolding act
-act-phase r sh d h stays = refl
-act-phase r sh d h (turns c why) = sym (ap (λ (x : Door). x .phase) (put-same r sh d c h))
-act-phase r sh d h (moves c) = sym (ap (λ (x : Door). x .phase) (put-same r sh d c h))
+act-phase r sh d h Stays = refl
+act-phase r sh d h (Turns c why) = sym (ap (λ (x : Door). x .phase) (put-same r sh d c h))
+act-phase r sh d h (Moves c) = sym (ap (λ (x : Door). x .phase) (put-same r sh d c h))
 
 -- a step that is done tells a reason only where `decide` denies
 abbrev Reasoned : Record → Kind → ℕ → Does → Type 0
@@ -467,27 +485,11 @@ module _ (r : Record) (l : ℕ) (list : List ℕ) where
             unaltered = λ _. rw s;
           }
 
-a-number : (a : Answer) → OneOf (0 ∷ 11 ∷ 12 ∷ 13 ∷ 14 ∷ []) (numberOf a)
-a-number Done = inl refl
-a-number NoSuch = inr (inl refl)
-a-number NotAllowed = inr (inr (inl refl))
-a-number TooShort = inr (inr (inr (inl refl)))
-a-number Unsound = inr (inr (inr (inr (inl refl))))
-
-no-step : (n : ℕ) → 10 ≤ n → kindOf n ≡ Unknown
-unfolding kindOf
-no-step n h =
-    let other : (k : ℕ) → k < 10 → eqb n k ≡ false = λ k low. ne-eqb n k (λ e. omega arith) in
-    rw (other 0 (omega arith), other 1 (omega arith), other 2 (omega arith), other 3 (omega arith), other 4 (omega arith), other 5 (omega arith), other 6 (omega arith), other 7 (omega arith), other 8 (omega arith), other 9 (omega arith))
-
 pub of-record : RecordAnswers
 of-record =
     record {
-      answer-number = a-number;
       is-sound = sound-tells;
       fresh = fresh-sound;
-      kind-of = no-step;
-      allowed-in = table-allows;
       step = step-tells;
       step-numbered = λ r n d p. step-tells r (kindOf n) d p;
       step-lent = step-tells;
@@ -587,7 +589,7 @@ site-blank s some = either Blank (ltb limit (length s)) (λ _ _. refl) (λ _. he
 
 -- which isn't sound: it has no people
 blank-unsound : soundB blankRecord ≡ true → ⊥
-unfolding soundB lawfulB inRange countsFit andAlso
+unfolding soundB listsSound lawfulB inRange countsFit andAlso
 blank-unsound e = false≢true e
 
 site-tells : (s : List ℕ) → SiteTells s

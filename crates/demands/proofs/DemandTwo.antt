@@ -10,39 +10,41 @@ use borrow.Author.Tests.{eqb-true, eqb-false, ltb-true, ne-eqb, lt-ltb, le-leb}
 use lib.ListN.{length, getD, drop}
 use lib.Seq.{set-getD}
 use lib.Dec.{eqb, ltb}
-use Rattle.rules.specs.Tables.{orElse, andAlso}
-use Rattle.rules.proofs.Laws.{clash}
-use Rattle.rules.specs.Way.{wayOf, ifRoom, told, written}
-use Rattle.rules.proofs.WayOut.{the-way}
-use Rattle.record.specs.declared.record.Door.{Door}
+use Rattle.tables.specs.Tables.{orElse, andAlso}
+use Rattle.tables.proofs.Laws.{clash}
+use Rattle.tables.specs.Way.{wayOf, ifRoom, told, written}
+use Rattle.tables.proofs.WayOut.{the-way}
+use Rattle.door.specs.declared.Door.{Door}
 use Rattle.record.specs.declared.record.Record.{Record}
-use Rattle.record.specs.declared.table.Kind.{Kind}
-use Rattle.record.specs.declared.table.Kind.the-variants.{Card, Decide, Green, Red, Walk, Tick, Passed, Lapsed, Dark, Ack, Unknown}
-use Rattle.record.specs.declared.steps.Answer.the-variants.{Done}
+use Rattle.door.specs.declared.table.Kind.{Kind}
+use Rattle.door.specs.declared.table.Kind.the-variants.{Card, Decide, Green, Red, Walk, Tick, Passed, Lapsed, Dark, Ack, Unknown}
+use Rattle.door.specs.declared.answer.Answer.the-variants.{Done}
 use Rattle.record.specs.declared.steps.Step.{Step}
 use Rattle.record.specs.declared.questions.WayAnswer.the-variants.{Length}
-use Rattle.record.specs.Phase.{free, read, granted, green, walked, expired, denied, red, dimmed, closed}
+use Rattle.door.specs.Phase.{free, read, granted, green, walked, expired, denied, red, dimmed, closed}
 use Rattle.record.specs.Doors.{doorOf, Tables, putDoor, Shaped}
-use Rattle.record.specs.Kinds.{allows, namesPerson}
+use Rattle.door.specs.Kinds.{allows, namesPerson}
 use Rattle.record.specs.Sound.{Sound}
-use Rattle.record.specs.Steps.{reasonFor, Admitted, Does, burns, effect, act, doing, stepOf, exist}
+use Rattle.door.specs.declared.does.Does.{Does}
+use Rattle.door.specs.Does.{burns, effect}
+use Rattle.record.specs.Steps.{reasonFor, Admitted, act, doing, stepOf, exist}
 use Rattle.record.specs.Run.{Row, lastOf}
 use Rattle.record.specs.Questions.{wayAnswerOf, wayWritten}
-use Rattle.record.proofs.Cases.{either}
+use Rattle.sound.proofs.Cases.{either}
 use Rattle.record.proofs.Ask.{place-is-location, way-out-safe, way-out-short}
 use Rattle.record.proofs.Right.{admitted}
 use Rattle.record.proofs.Tells.{sound-tells}
 use Rattle.record.proofs.Laws.{done-did, barred-12, act-done, becomes, door-after, sound-stays, shaped-stays, tables-stay, run-sound, run-shaped, run-tables}
 use Rattle.record.proofs.Laws.{denied-first, granted-exactly, green-burns, green-expires, red-burns, red-dims}
-use Rattle.site.specs.declared.read.Verdict.the-variants.{Accepted}
-use Rattle.site.specs.Site.{siteOf}
-use Rattle.site.proofs.Theorems.{accepted-holds}
+use Rattle.verdict.specs.declared.Verdict.the-variants.{Accepted}
+use Rattle.says.specs.Site.{siteOf}
+use Rattle.says.proofs.Theorems.{accepted-holds}
 use Rattle.chapter.proofs.Theorems.{fresh-reads, step-acts, step-follows, tick-idles, refusal-alters-nothing, stands-for-one, idle-stands-for-none, denial-first}
 use Rattle.chapter.specs.M4 as m4
 use Rattle.chapter.specs.Reading.{constantsOf, stateOf}
 use Rattle.demands.specs.DemandTwo.{WayOutside, StepIsEvent, Light, Decided, NothingToAlter, no-light, green-whole, red-whole, GreenCounts, RedCounts}
 use Rattle.demands.proofs.DemandOne.{of-record}
-use Rattle.demands.proofs.Serial.{step-done}
+use Rattle.serving.proofs.Serial.{step-done}
 
 -- ---- the way outside
 

@@ -11,29 +11,40 @@ use Prim.Native.Nat.{ℕ}
 use mathlib.Core.Path.{_≡_}
 use mathlib.Core.List.{List}
 use Rattle.record.specs.Run.{Row}
-use Rattle.site.specs.declared.read.Verdict.the-variants.{Accepted}
-use Rattle.site.specs.Site.{siteOf}
-use Rattle.site.proofs.Theorems.{accepted-exactly, accepted-holds}
+use Rattle.verdict.specs.declared.Verdict.the-variants.{Accepted}
+use Rattle.says.specs.Site.{siteOf}
+use Rattle.says.proofs.Theorems.{accepted-exactly, accepted-holds}
 use Rattle.chapter.proofs.Theorems.{constants-obey, panel-runs}
 use Rattle.demands.specs.DemandOne.{DemandOne}
 use Rattle.demands.specs.DemandTwo.{DemandTwo}
-use Rattle.demands.specs.Served.{DemandThree}
-use Rattle.demands.specs.Warden.{PutByPassages, RefusedMovesNobody}
+use Rattle.serving.specs.Served.{DemandThree}
+use Rattle.serving.specs.Warden.{PutByPassages, RefusedMovesNobody}
 use Rattle.demands.specs.Unique.{AnswersUnique}
 use Rattle.demands.specs.Cases.{TwelveCases}
 use Rattle.demands.proofs.DemandOne.{of-sheet, of-rules, of-record, of-site}
+use Rattle.demands.proofs.Leaves.{of-tables, of-door, of-sound}
 use Rattle.demands.proofs.Texts.{of-run}
 use Rattle.demands.proofs.DemandTwo.{way-of, after-steps, is-event, decided, starts, alters, green-counts, red-counts}
-use Rattle.demands.proofs.DemandThree as three
-use Rattle.demands.proofs.Warden as warden
+use Rattle.serving.proofs.DemandThree as three
+use Rattle.serving.proofs.Warden as warden
 use Rattle.demands.proofs.Accepted.{accepted-fresh}
-use Rattle.demands.proofs.Unique.{sheet-unique, rules-unique, record-unique, site-unique, run-unique, papers-unique}
+use Rattle.demands.proofs.Unique.{sheet-unique, tables-unique, rules-unique, door-unique, sound-unique, record-unique, site-unique, run-unique, papers-unique}
 use Rattle.demands.proofs.TwelveCases as cases
 
 -- "1. Any sheet of text, any record, any number for a door or a person: the panel ends, and acts or refuses by a number from the
 -- papers. A refusal alters no record and no list lent to it."
 pub demand-1 : DemandOne
-demand-1 = record { of-sheet = of-sheet; of-rules = of-rules; of-record = of-record; of-site = of-site; of-run = of-run }
+demand-1 =
+    record {
+      of-sheet = of-sheet;
+      of-tables = of-tables;
+      of-rules = of-rules;
+      of-door = of-door;
+      of-sound = of-sound;
+      of-record = of-record;
+      of-site = of-site;
+      of-run = of-run;
+    }
 
 -- "2. A site sheet is accepted exactly when it obeys the written rules, and its record holds what its rows say, so everybody has a
 -- signed way outside which they may use. Each step does what the events of the location access chapter, to its fourth refinement,
@@ -78,7 +89,10 @@ pub answers-unique : AnswersUnique
 answers-unique =
     record {
       of-sheet = sheet-unique;
+      of-tables = tables-unique;
       of-rules = rules-unique;
+      of-door = door-unique;
+      of-sound = sound-unique;
       of-record = record-unique;
       of-site = site-unique;
       of-run = run-unique;

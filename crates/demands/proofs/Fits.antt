@@ -6,39 +6,39 @@ use mathlib.Core.Bool.{Bool, true, false}
 use mathlib.Core.List.{List, [], _∷_}
 use native.Mathlib.Omega.{arith}
 use borrow.Author.Tests.{ltb-true, ltb-false}
-use lib.Dec.{eqb, ltb}
+use lib.Dec.{ltb}
 use lib.ListN.{length, getD, length-append}
-use Rattle.rules.specs.Tables.{mayBe}
-use Rattle.sheet.specs.Cut.{cutRow}
-use Rattle.sheet.specs.Rows.{readRows, rowsFrom, onRow}
-use Rattle.sheet.specs.declared.cut.RowCut.{RowCut}
-use Rattle.sheet.specs.declared.cut.RowCut.the-variants.{Cut, NoRow, Broken}
-use Rattle.sheet.specs.declared.cut.Cells.{Cells}
+use Rattle.grammar.specs.Cut.{cutRow}
+use Rattle.grammar.specs.Rows.{readRows, rowsFrom, onRow}
+use Rattle.grammar.specs.declared.cut.RowCut.{RowCut}
+use Rattle.grammar.specs.declared.cut.RowCut.the-variants.{Cut, NoRow, Broken}
+use Rattle.grammar.specs.declared.cut.Cells.{Cells}
 use Rattle.record.specs.declared.record.Record.{Record}
-use Rattle.record.specs.declared.record.Door.{Door}
-use Rattle.record.specs.declared.table.Kind.{Kind}
-use Rattle.record.specs.declared.table.Kind.the-variants.{Card, Decide, Green, Red, Walk, Tick, Passed, Lapsed, Dark, Ack, Unknown}
-use Rattle.record.specs.declared.steps.Answer.{Answer}
-use Rattle.record.specs.declared.steps.Answer.the-variants.{Done, NoSuch, NotAllowed, TooShort, Unsound}
+use Rattle.door.specs.declared.Door.{Door}
+use Rattle.door.specs.declared.table.Kind.{Kind}
+use Rattle.door.specs.declared.answer.Answer.{Answer}
+use Rattle.door.specs.declared.answer.Answer.the-variants.{Done, NoSuch, NotAllowed, TooShort, Unsound}
 use Rattle.record.specs.declared.steps.Step.{Step}
-use Rattle.record.specs.Answers.{numberOf}
+use Rattle.door.specs.Answers.{numberOf}
 use Rattle.record.specs.Doors.{doorOf, Shaped}
-use Rattle.record.specs.Kinds.{allows}
-use Rattle.record.specs.Phase.{green, expired, red, dimmed}
+use Rattle.door.specs.Kinds.{allows}
 use Rattle.record.specs.Sound.{Sound}
 use Rattle.record.specs.SoundTest.{soundB}
-use Rattle.record.specs.Grants.{hasGrant}
-use Rattle.record.specs.Steps.{reasonFor, Does, stays, turns, moves, burns, effect, act, exist, soundStep, stepOf}
+use Rattle.door.specs.declared.does.Does.{Does}
+use Rattle.door.specs.declared.does.Does.the-variants.{Stays, Turns, Moves}
+use Rattle.record.specs.Steps.{act, exist, soundStep, stepOf}
 use Rattle.record.specs.Run.{Row, rowOf, toldOf, answerTold, phaseTold, reasonTold}
-use Rattle.record.proofs.Cases.{either}
+use Rattle.sound.proofs.Cases.{either}
 use Rattle.record.proofs.Laws.{sound-stays, shaped-stays}
-use Rattle.run.specs.declared.steps.Line.{Line}
-use Rattle.run.specs.declared.steps.Line.the-variants as line
-use Rattle.run.specs.Steps.{lineAt, before, stepsIn, stepsFrom}
-use Rattle.run.specs.Text.{rowText}
-use Rattle.run.specs.Printed.{panelRow, answerRows, placeRows}
-use Rattle.run.proofs.Writing.{one-digit, two-digits, four-digits, last-length, more-length}
-use Rattle.run.proofs.Decoding.{Takes, step-takes}
+use Rattle.demands.specs.DemandOne.{DoesTold}
+use Rattle.demands.proofs.Leaves.{effect-told, reason-small}
+use Rattle.printed.specs.declared.steps.Line.{Line}
+use Rattle.printed.specs.declared.steps.Line.the-variants as line
+use Rattle.printed.specs.Steps.{lineAt, before, stepsIn, stepsFrom}
+use Rattle.printed.specs.Text.{rowText}
+use Rattle.printed.specs.Printed.{panelRow, answerRows, placeRows}
+use Rattle.printed.proofs.Writing.{one-digit, two-digits, four-digits, last-length, more-length}
+use Rattle.printed.proofs.Decoding.{Takes, step-takes}
 
 -- ---- a sheet has at most 6,144 steps
 
@@ -76,35 +76,6 @@ steps-few s from = few _ s from
 
 -- ---- what is told of a step is short
 
-abbrev Small : Does → Type 0
-Small stays = 0 ≤ 9
-Small (turns c why) = (c .phase ≤ 9) × (why ≤ 3)
-Small (moves c) = c .phase ≤ 9
-
-effect-small : (k : Kind) (p why : ℕ) (c : Door) → why ≤ 3 → c .phase ≤ 9 → Small (effect k p why c)
-unfolding effect
-effect-small Card p why c w h = (omega arith, omega arith)
-effect-small Decide p why c w h = either Small (eqb why 0) (λ _. (omega arith, omega arith)) (λ _. (omega arith, w))
-effect-small Green p why c w h = (omega arith, omega arith)
-effect-small Red p why c w h = (omega arith, omega arith)
-effect-small Walk p why c w h = (omega arith, omega arith)
-effect-small Tick p why c w h =
-    let burning : (out : ℕ) → out ≤ 9 → Small (burns c out) = λ out o. either Small (ltb 1 (c .count)) (λ _. (h, omega arith)) (λ _. (o, omega arith)) in
-    either Small (eqb (c .phase) green) (λ _. burning expired (omega arith))
-    (λ _. either Small (eqb (c .phase) red) (λ _. burning dimmed (omega arith)) (λ _. omega arith))
-effect-small Passed p why c w h = omega arith
-effect-small Lapsed p why c w h = (omega arith, omega arith)
-effect-small Dark p why c w h = (omega arith, omega arith)
-effect-small Ack p why c w h = (omega arith, omega arith)
-effect-small Unknown p why c w h = omega arith
-
-reason-small : (r : Record) (d p : ℕ) → reasonFor r d p ≤ 3
-unfolding reasonFor
-reason-small r d p =
-    either (λ (n : ℕ). n ≤ 3) (eqb (getD (r .place) p 0) (getD (r .origin) d 0))
-    (λ _. either (λ (n : ℕ). n ≤ 3) (mayBe (r .right) p (getD (r .destination) d 0))
-    (λ _. either (λ (n : ℕ). n ≤ 3) (hasGrant (r .doors) (r .phase) (r .holder) p) (λ _. omega arith) (λ _. omega arith)) (λ _. omega arith)) (λ _. omega arith)
-
 -- every door's phase is one of the ten
 phase-known : (r : Record) → Sound r → (d : ℕ) → getD (r .phase) d 0 ≤ 9
 phase-known r s d = go (ltb d (r .doors)) refl
@@ -117,11 +88,11 @@ pub record ToldShort (s : Step) : Type 0 where
   pub phase-short : s .phase ≤ 9
   pub reason-short : s .reason ≤ 3
 
-act-small : (r : Record) (d : ℕ) (does : Does) → getD (r .phase) d 0 ≤ 9 → Small does → ToldShort (act r d does)
+act-small : (r : Record) (d : ℕ) (does : Does) → getD (r .phase) d 0 ≤ 9 → DoesTold does → ToldShort (act r d does)
 unfolding act
-act-small r d stays h m = record { phase-short = h; reason-short = omega arith }
-act-small r d (turns c why) h m = record { phase-short = m .0; reason-short = m .1 }
-act-small r d (moves c) h m = record { phase-short = m; reason-short = omega arith }
+act-small r d Stays h m = record { phase-short = h; reason-short = omega arith }
+act-small r d (Turns c why) h m = record { phase-short = m .0; reason-short = m .1 }
+act-small r d (Moves c) h m = record { phase-short = m; reason-short = omega arith }
 
 told-short : (r : Record) → Sound r → (k : Kind) (d p : ℕ) → ToldShort (stepOf r k d p)
 unfolding stepOf soundStep
@@ -129,7 +100,7 @@ told-short r s k d p =
     either ToldShort (soundB r)
     (λ _. either ToldShort (exist r k d p)
     (λ _. either ToldShort (allows k (getD (r .phase) d 0))
-    (λ _. act-small r d _ (phase-known r s d) (effect-small k p _ (doorOf r d) (reason-small r d (getD (r .holder) d 0)) (phase-known r s d)))
+    (λ _. act-small r d _ (phase-known r s d) (effect-told k p _ (doorOf r d) (reason-small (r .doors) (r .origin) (r .destination) (r .right) (r .place) (r .phase) (r .holder) d (getD (r .holder) d 0)) (phase-known r s d)))
     (λ _. record { phase-short = phase-known r s d; reason-short = omega arith }))
     (λ _. record { phase-short = omega arith; reason-short = omega arith }))
     (λ _. record { phase-short = omega arith; reason-short = omega arith })

@@ -10,31 +10,31 @@ use lib.Dec.{eqb, ltb, leb}
 use native.Mathlib.Nat.{zero-add}
 use lib.ListN.{length, getD, take, drop, length-append}
 use lib.Seq.{sets-eq, getD-take, length-take-le}
-use Rattle.rules.specs.Tables.{mostLocations}
-use Rattle.sheet.specs.Cut.{cutRow}
-use Rattle.sheet.specs.Rows.{rowsFrom}
-use Rattle.sheet.specs.declared.cut.RowCut.{RowCut}
-use Rattle.sheet.specs.declared.cut.RowCut.the-variants.{Cut, NoRow, Broken}
-use Rattle.sheet.proofs.Reading.{cut-there}
+use Rattle.tables.specs.Tables.{mostLocations}
+use Rattle.grammar.specs.Cut.{cutRow}
+use Rattle.grammar.specs.Rows.{rowsFrom}
+use Rattle.grammar.specs.declared.cut.RowCut.{RowCut}
+use Rattle.grammar.specs.declared.cut.RowCut.the-variants.{Cut, NoRow, Broken}
+use Rattle.grammar.proofs.Reading.{cut-there}
 use Rattle.record.specs.declared.record.Record.{Record}
 use Rattle.record.specs.Doors.{Shaped}
 use Rattle.record.specs.Sound.{Sound}
 use Rattle.record.specs.Run.{toldOf, answerTold, phaseTold, reasonTold}
-use Rattle.record.proofs.Cases.{either}
+use Rattle.sound.proofs.Cases.{either}
 use Rattle.record.proofs.Laws.{run-sound, run-shaped}
-use Rattle.site.specs.Site.{limit, siteOf, numberOf}
-use Rattle.site.specs.Accepted.{AcceptedRecord}
-use Rattle.site.proofs.Theorems.{accepted-holds}
-use Rattle.run.specs.declared.steps.Heading.{Heading}
-use Rattle.run.specs.declared.steps.Heading.the-variants as heading
-use Rattle.run.specs.declared.text.Printed.{Printed}
-use Rattle.run.specs.declared.text.Printed.the-variants.{Text, TooShort}
-use Rattle.run.specs.Steps.{headerAt, headed, headingOf, stepsFrom, rowsIn}
-use Rattle.run.specs.Printed.{panelHeader, whereHeader, panelRow, answerRows, lastRow, runText, aloneText, ranText, stepsText, panelText}
-use Rattle.run.specs.Printed.{placeRows, placesText, recordText, lastRecord, whereText, fits, printedOf, written, printedNumber}
-use Rattle.run.proofs.Writing.{four-width}
-use Rattle.run.proofs.Serving.{steps-even, steps-told, rows-length}
-use Rattle.run.proofs.Sheets.{zero-accepted, headed-short}
+use Rattle.says.specs.Site.{limit, siteOf, numberOf}
+use Rattle.says.specs.Accepted.{AcceptedRecord}
+use Rattle.says.proofs.Theorems.{accepted-holds}
+use Rattle.printed.specs.declared.steps.Heading.{Heading}
+use Rattle.printed.specs.declared.steps.Heading.the-variants as heading
+use Rattle.printed.specs.declared.text.Printed.{Printed}
+use Rattle.printed.specs.declared.text.Printed.the-variants.{Text, TooShort}
+use Rattle.printed.specs.Steps.{headerAt, headed, headingOf, stepsFrom, rowsIn}
+use Rattle.printed.specs.Printed.{panelHeader, whereHeader, panelRow, answerRows, lastRow, runText, aloneText, ranText, stepsText, panelText}
+use Rattle.printed.specs.Printed.{placeRows, placesText, recordText, lastRecord, whereText, fits, printedOf, written, printedNumber}
+use Rattle.printed.proofs.Writing.{four-width}
+use Rattle.printed.proofs.Serving.{steps-even, steps-told, rows-length}
+use Rattle.printed.proofs.Sheets.{zero-accepted, headed-short}
 use Rattle.demands.specs.DemandOne.{OneOf, HeadingTold, TextTells, RunAnswers}
 use Rattle.demands.proofs.DemandOne.{number-most, of-rules}
 use Rattle.demands.proofs.Fits.{steps-few, rows-short, places-short}

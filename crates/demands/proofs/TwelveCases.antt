@@ -6,38 +6,41 @@ use mathlib.Core.Path.{_≡_, refl, ap, subst, _∙_}
 use mathlib.Core.Bool.{true}
 use mathlib.Core.List.{List, [], _∷_}
 use lib.ListN.{getD}
-use Rattle.rules.specs.Below.{orAt, leastBelow, withLocation, locationOf, leastPair, someBelow}
-use Rattle.rules.specs.Tables.{orElse, andAlso, mayBe}
-use Rattle.rules.specs.Tests.{lacksExit, firstNoExit, strays, firstStray, joins, lacksDoor, firstNoDoor, lacksRight, firstNoRight, letsIn, shutOut, firstShutOut}
-use Rattle.rules.specs.Way.{unlessOutside, wayOut, unvisited, wayOf, ifRoom, told, written}
+use Rattle.tables.specs.Below.{orAt, leastBelow, withLocation, locationOf, leastPair, someBelow}
+use Rattle.tables.specs.Tables.{orElse, andAlso, mayBe}
+use Rattle.tables.specs.Tests.{lacksExit, firstNoExit, strays, firstStray, joins, lacksDoor, firstNoDoor, lacksRight, firstNoRight, letsIn, shutOut, firstShutOut}
+use Rattle.tables.specs.Way.{unlessOutside, wayOut, unvisited, wayOf, ifRoom, told, written}
 use Rattle.record.specs.declared.record.Record.{Record}
 use Rattle.record.specs.declared.steps.Step.{Step}
-use Rattle.record.specs.declared.table.Kind.the-variants.{Decide, Green, Walk}
-use Rattle.record.specs.Phase.{grants, green, expired}
+use Rattle.door.specs.declared.table.Kind.the-variants.{Decide, Green, Walk}
+use Rattle.door.specs.Phase.{grants, green, expired}
 use Rattle.record.specs.Doors.{Shaped, zeros}
-use Rattle.record.specs.Kinds.{allows}
-use Rattle.record.specs.Grants.{grantsTo, grantOf, hasGrant}
+use Rattle.door.specs.Kinds.{allows}
+use Rattle.sound.specs.Grants.{grantsTo, grantOf, hasGrant}
 use Rattle.record.specs.Sound.{Sound}
-use Rattle.record.specs.Steps.{reasonFor, effect, act, exist, soundStep}
+use Rattle.door.specs.Does.{effect}
+use Rattle.sound.specs.Reasons.{firstReason}
+use Rattle.record.specs.Steps.{act, exist, soundStep}
 use Rattle.record.specs.SoundTest.{soundB}
 use Rattle.record.specs.Questions.{wayAnswerOf, wayWritten}
 use Rattle.record.specs.declared.questions.WayAnswer.the-variants.{Length}
 use Rattle.record.specs.Run.{Row, rowOf, lastOf, toldOf}
 use Rattle.record.proofs.Laws.{sound-steps, sound-stays, shaped-stays, run-sound, run-shaped}
 use Rattle.record.proofs.Tells.{sound-tells}
-use Rattle.sheet.specs.Cut.{bareMove, shutMove, moveOf, endOf, fieldFrom, pushed, rowFrom, cutRow}
-use Rattle.sheet.specs.Rows.{readRows, rowsFrom}
-use Rattle.sheet.specs.Say.{valueFrom, digitsFrom, needlessZero, numberOf, contentAt, sameBytes, isWord, numberAt}
-use Rattle.site.specs.declared.read.Verdict.the-variants.{Accepted, NoExit, Stray, NoDoor, NoRight, ShutOut}
-use Rattle.site.specs.Draft.{unmarked, siteFits, takeSite, doorFits, takeDoor, exitFits, takeExit, rightFits, takeRight, takeLine}
-use Rattle.site.specs.Line.{wordOf, lineAt, headerAt}
-use Rattle.site.specs.Site.{linesIn, readLines, judged, settled, afterHeader, siteOf}
-use Rattle.demands.specs.Serving.{Line, linesOf, heardOf, stepAt, ticked}
-use Rattle.demands.specs.Served.{Fresh}
-use Rattle.demands.specs.Cases.{siteSheet, withoutExit, exitsInACircle, withoutDoor, withoutRightOf0, withoutRightOf1, freshSite, reasonAt, phaseAt, cardAt, goesThrough, greenFor, TwelveCases}
-use Rattle.demands.specs.WholeRun.{runOf01, stepsIn}
-use Rattle.demands.proofs.Runs.{lineOf}
-use Rattle.demands.proofs.Example.{site-of-01}
+use Rattle.grammar.specs.Cut.{bareMove, shutMove, moveOf, endOf, fieldFrom, pushed, rowFrom, cutRow}
+use Rattle.grammar.specs.Rows.{readRows, rowsFrom}
+use Rattle.grammar.specs.Say.{valueFrom, digitsFrom, needlessZero, numberOf, contentAt, sameBytes, isWord, saysWords, numberAt}
+use Rattle.verdict.specs.declared.Verdict.the-variants.{Accepted, NoExit, Stray, NoDoor, NoRight, ShutOut}
+use Rattle.says.specs.Draft.{unmarked, siteFits, takeSite, doorFits, takeDoor, exitFits, takeExit, rightFits, takeRight, takeLine}
+use Rattle.says.specs.Line.{wordOf, lineAt, headerAt}
+use Rattle.says.specs.Site.{linesIn, readLines, judged, settled, afterHeader, siteOf}
+use Rattle.serving.specs.Serving.{Line, linesOf, heardOf, stepAt, ticked}
+use Rattle.serving.specs.Served.{Fresh}
+use Rattle.demands.specs.Cases.{withoutExit, exitsInACircle, withoutDoor, withoutRightOf0, withoutRightOf1, freshSite, reasonAt, phaseAt, cardAt, goesThrough, greenFor, TwelveCases}
+use Rattle.serving.specs.WholeRun.{runOf01, stepsIn}
+use Rattle.serving.proofs.Runs.{lineOf}
+use Rattle.printed.specs.Examples.{siteSheet}
+use Rattle.printed.proofs.Examples.{soundLast, sound-last, site-of-01}
 use Rattle.demands.proofs.Accepted.{accepted-fresh}
 
 -- what the six sheets are told, and the record of the first
@@ -48,24 +51,13 @@ sheets : (siteOf siteSheet .verdict ≡ Accepted)
     × (siteOf withoutRightOf0 .verdict ≡ NoRight 0 2)
     × (siteOf withoutRightOf1 .verdict ≡ ShutOut 1)
     × (freshSite ≡ site-of-01)
-unfolding bareMove shutMove moveOf endOf fieldFrom pushed rowFrom cutRow readRows rowsFrom valueFrom digitsFrom needlessZero numberOf contentAt sameBytes isWord numberAt orAt leastBelow withLocation locationOf leastPair someBelow orElse andAlso mayBe lacksExit firstNoExit strays firstStray joins lacksDoor firstNoDoor lacksRight firstNoRight letsIn shutOut firstShutOut unlessOutside wayOut unvisited wayOf unmarked siteFits takeSite doorFits takeDoor exitFits takeExit rightFits takeRight takeLine wordOf lineAt headerAt linesIn readLines judged settled afterHeader siteOf zeros
+unfolding bareMove shutMove moveOf endOf fieldFrom pushed rowFrom cutRow readRows rowsFrom valueFrom digitsFrom needlessZero numberOf contentAt sameBytes isWord saysWords numberAt orAt leastBelow withLocation locationOf leastPair someBelow orElse andAlso mayBe lacksExit firstNoExit strays firstStray joins lacksDoor firstNoDoor lacksRight firstNoRight letsIn shutOut firstShutOut unlessOutside wayOut unvisited wayOf unmarked siteFits takeSite doorFits takeDoor exitFits takeExit rightFits takeRight takeLine wordOf lineAt headerAt linesIn readLines judged settled afterHeader siteOf zeros
 sheets = (refl, refl, refl, refl, refl, refl, refl)
 
 fresh : Fresh freshSite
 fresh = accepted-fresh siteSheet (sheets .0)
 
 -- ---- the steps, without the test for 14
-
-soundLast : Record → List Row → Record
-soundLast r [] = r
-soundLast r (row ∷ rows) = soundLast (soundStep r (row .kind) (row .at) (row .person) .next) rows
-
-sound-last : (rows : List Row) (r : Record) → Shaped r → Sound r → lastOf r rows ≡ soundLast r rows
-unfolding lastOf soundLast
-sound-last [] r sh s = refl
-sound-last (row ∷ rows) r sh s =
-    sound-last rows _ (shaped-stays r (row .kind) (row .at) (row .person) sh) (sound-stays r (row .kind) (row .at) (row .person) sh s)
-    ∙ ap (λ (x : Step). soundLast (x .next) rows) (sound-steps r (row .kind) (row .at) (row .person) sh s)
 
 last-here : (rows : List Row) → lastOf freshSite rows ≡ soundLast site-of-01 rows
 last-here rows = sound-last rows freshSite (fresh .shaped) (fresh .sound) ∙ ap (λ (x : Record). soundLast x rows) (sheets .6)
@@ -84,7 +76,7 @@ steps : (reasonAt 1 (cardAt 0 0 ∷ stepAt Decide 0 ∷ stepAt Green 0 ∷ stepA
     × (reasonAt 3 (goesThrough 0 0 (cardAt 1 0 ∷ stepAt Decide 1 ∷ cardAt 3 0 ∷ [])) ≡ 3)
     × (phaseAt 0 (greenFor 299) ≡ green)
     × (phaseAt 0 (greenFor 300) ≡ expired)
-unfolding soundLast soundStep reasonFor effect act exist allows hasGrant grantOf leastBelow orAt grantsTo grants mayBe andAlso orElse zeros ticked
+unfolding soundLast soundStep firstReason effect act exist allows hasGrant grantOf leastBelow orAt grantsTo grants mayBe andAlso orElse zeros ticked
 steps = (reason-here 1 _, reason-here 1 _, reason-here 3 _, phase-here 0 _, phase-here 0 _)
 
 -- ---- the whole run
@@ -105,11 +97,11 @@ sound-heard (row ∷ rows) r sh s =
     ∙ ap (λ (x : Step). lineOf row x ∷ soundHeard (x .next) rows) (sound-steps r (row .kind) (row .at) (row .person) sh s)
 
 pub whole-run : heardOf freshSite (stepsIn runOf01) ≡ runOf01
-unfolding soundHeard stepsIn soundStep reasonFor effect act exist allows hasGrant grantOf leastBelow orAt grantsTo grants mayBe andAlso orElse zeros
+unfolding soundHeard stepsIn soundStep firstReason effect act exist allows hasGrant grantOf leastBelow orAt grantsTo grants mayBe andAlso orElse zeros
 whole-run = sound-heard (stepsIn runOf01) freshSite (fresh .shaped) (fresh .sound) ∙ ap (λ (x : Record). soundHeard x (stepsIn runOf01)) (sheets .6)
 
 pub whole-run-places : (getD (lastOf freshSite (stepsIn runOf01) .place) 0 0 ≡ 1) × (getD (lastOf freshSite (stepsIn runOf01) .place) 1 0 ≡ 0)
-unfolding soundLast stepsIn soundStep reasonFor effect act exist allows hasGrant grantOf leastBelow orAt grantsTo grants mayBe andAlso orElse zeros
+unfolding soundLast stepsIn soundStep firstReason effect act exist allows hasGrant grantOf leastBelow orAt grantsTo grants mayBe andAlso orElse zeros
 whole-run-places =
     (ap (λ (x : Record). getD (x .place) 0 0) (last-here (stepsIn runOf01)), ap (λ (x : Record). getD (x .place) 1 0) (last-here (stepsIn runOf01)))
 

@@ -3,8 +3,8 @@ use Prim.Native.Nat.{ℕ}
 use mathlib.Core.Path.{_≡_, sym, _∙_}
 use mathlib.Core.List.{List}
 use Rattle.record.proofs.Right.{reason-only}
-use Rattle.site.proofs.Only.{gives-site}
-use Rattle.demands.specs.Unique.{Unique, SheetUnique, RulesUnique, RecordUnique, SiteUnique, RunUnique, PapersUnique}
+use Rattle.says.proofs.Only.{gives-site}
+use Rattle.demands.specs.Unique.{Unique, SheetUnique, TablesUnique, RulesUnique, DoorUnique, SoundUnique, RecordUnique, SiteUnique, RunUnique, PapersUnique}
 
 -- an equation allows one answer,
 alone : {A : Type 0} {a : A} → Unique (λ (x : A). x ≡ a)
@@ -35,8 +35,13 @@ sheet-unique =
       reader-past-row = λ reader. alone;
       first-data-row = λ s. alone;
       is-word = λ s cell word. alone;
+      says-words = λ s cells x y z. alone;
       number-of = λ s cell. alone;
     }
+
+pub tables-unique : TablesUnique
+tables-unique =
+    record { byte-at = λ list at. alone; word-at = λ list at. alone; put-byte = λ list at n. alone; put-word = λ list at n. alone }
 
 pub rules-unique : RulesUnique
 rules-unique =
@@ -52,15 +57,32 @@ rules-unique =
       way-out = λ locations exit from list. beside;
     }
 
-pub record-unique : RecordUnique
-record-unique =
+pub door-unique : DoorUnique
+door-unique =
     record {
-      door-free = alone;
-      fresh = λ people locations doors origin destination exit right. alone;
-      is-sound = λ r. alone;
       answer-number = λ a. alone;
       kind-of = λ n. alone;
       allowed-in = λ k phase. alone;
+      grants = λ phase. alone;
+      among = λ phase holder count d. alone;
+      free = alone;
+      fits = λ people c. alone;
+      does = λ k p why c. alone;
+    }
+
+pub sound-unique : SoundUnique
+sound-unique =
+    record {
+      grant-of = λ n phase holder p. alone;
+      first-reason = λ doors origin destination right place phase holder d p. alone;
+      lists-sound = λ people locations doors origin destination exit right place phase holder count. alone;
+    }
+
+pub record-unique : RecordUnique
+record-unique =
+    record {
+      fresh = λ people locations doors origin destination exit right. alone;
+      is-sound = λ r. alone;
       step = λ r k d p. alone;
       step-numbered = λ r n d p. alone;
       step-lent = λ r k d p. beside;

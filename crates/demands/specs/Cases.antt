@@ -1,47 +1,19 @@
 -- The twelve cases of paper 01 ("Twelve cases to prove"), from the sheets' own bytes, and through the steps and the questions.
-use Prim.Native.Nat.{ℕ, _+_}
+use Prim.Native.Nat.{ℕ}
 use mathlib.Core.Path.{_≡_}
-use mathlib.Core.List.{List, [], _∷_, _++_}
+use mathlib.Core.List.{List, [], _∷_}
 use lib.ListN.{getD}
 use Rattle.record.specs.declared.record.Record.{Record}
-use Rattle.record.specs.declared.table.Kind.the-variants.{Card, Decide, Green, Walk, Passed, Ack}
+use Rattle.door.specs.declared.table.Kind.the-variants.{Card, Decide, Green, Walk, Passed, Ack}
 use Rattle.record.specs.declared.questions.WayAnswer.the-variants.{Length}
-use Rattle.record.specs.Phase.{green, expired}
+use Rattle.door.specs.Phase.{green, expired}
 use Rattle.record.specs.Run.{Row, rowOf, lastOf}
 use Rattle.record.specs.Questions.{wayAnswerOf, wayWritten}
-use Rattle.site.specs.declared.read.Verdict.the-variants.{Accepted, NoExit, Stray, NoDoor, NoRight, ShutOut}
-use Rattle.site.specs.Line.{siteWord, doorWord, exitWord, rightWord, kindWord, aWord, bWord}
-use Rattle.site.specs.Site.{siteOf}
-use Rattle.demands.specs.Serving.{stepAt, ticked}
-
--- a row in bytes: three fields with commas (44) between, and CRLF (13, 10)
-abbrev pub rowOfBytes : List ℕ → List ℕ → List ℕ → List ℕ
-rowOfBytes a b c = a ++ (44 ∷ (b ++ (44 ∷ (c ++ (13 ∷ 10 ∷ [])))))
-
--- a digit in bytes: 48 is `0`
-abbrev pub digit : ℕ → List ℕ
-digit n = (48 + n) ∷ []
-
-abbrev pub line : List ℕ → ℕ → ℕ → List ℕ → List ℕ
-line word a b more = rowOfBytes word (digit a) (digit b) ++ more
-
--- `kind,a,b` and `site,2,3`
-abbrev pub top : List ℕ → List ℕ
-top more = rowOfBytes kindWord aWord bWord ++ line siteWord 2 3 more
-
--- "site.csv rows after the header: `site,2,3` `door,0,1` `door,1,2` `door,2,1` `door,1,0` `exit,1,0` `exit,2,1` `right,0,1`
--- `right,0,2` `right,1,1`."
-abbrev pub fourDoors : List ℕ → List ℕ
-fourDoors more = line doorWord 0 1 (line doorWord 1 2 (line doorWord 2 1 (line doorWord 1 0 more)))
-
-abbrev pub twoExits : List ℕ → List ℕ
-twoExits more = line exitWord 1 0 (line exitWord 2 1 more)
-
-abbrev pub threeRights : List ℕ
-threeRights = line rightWord 0 1 (line rightWord 0 2 (line rightWord 1 1 []))
-
-abbrev pub siteSheet : List ℕ
-siteSheet = top (fourDoors (twoExits threeRights))
+use Rattle.verdict.specs.declared.Verdict.the-variants.{Accepted, NoExit, Stray, NoDoor, NoRight, ShutOut}
+use Rattle.says.specs.Line.{doorWord, exitWord, rightWord}
+use Rattle.says.specs.Site.{siteOf}
+use Rattle.printed.specs.Examples.{line, top, fourDoors, twoExits, threeRights, siteSheet}
+use Rattle.serving.specs.Serving.{stepAt, ticked}
 
 -- "without `exit,2,1`"
 abbrev pub withoutExit : List ℕ

@@ -7,58 +7,68 @@ use mathlib.Core.Path.{_≡_}
 use mathlib.Core.Bool.{Bool, true, false}
 use mathlib.Core.List.{List, [], _∷_, _++_}
 use mathlib.Core.Logic.{_⊎_, _↔_}
-use lib.ListN.{length, getD, drop}
+use lib.ListN.{length, getD, set, drop}
 use lib.Seq.{sets}
 use denote.Ref.{RefT, now}
 use Rattle.sheet.specs.declared.reader.Reader.{Reader}
-use Rattle.sheet.specs.declared.cut.Cell.{Cell}
-use Rattle.sheet.specs.declared.cut.FieldCut.{FieldCut}
-use Rattle.sheet.specs.declared.cut.FieldCut.the-variants.{Next, Last, Fault}
-use Rattle.sheet.specs.declared.cut.RowCut.{RowCut}
-use Rattle.sheet.specs.declared.cut.RowCut.the-variants.{Cut, NoRow, Broken}
-use Rattle.sheet.specs.declared.count.Counted.{Counted}
-use Rattle.sheet.specs.declared.count.Counted.the-variants.{All, UpTo}
-use Rattle.sheet.specs.declared.say.Number.the-variants.{Is}
-use Rattle.sheet.specs.Cut.{cutField, cutRow}
-use Rattle.sheet.specs.Rows.{countRows}
-use Rattle.sheet.specs.Reader.{pastRow, firstDataRow, readerAt, movedOn}
-use Rattle.sheet.specs.Say.{contentAt, isWord, numberAt}
-use Rattle.rules.specs.declared.Found.the-variants.{At, Nothing}
-use Rattle.rules.specs.declared.RightFound.the-variants as pair
-use Rattle.rules.specs.declared.WayTold.the-variants.{Length, TooShort}
-use Rattle.rules.specs.Tables.{mayBe, mostLocations}
-use Rattle.rules.specs.Below.{Tells}
-use Rattle.rules.specs.Rules.{InRange, Lawful}
-use Rattle.rules.specs.Tests.{inRange, firstNoExit, firstStray, firstNoDoor, firstNoRight, firstShutOut, lawfulB}
-use Rattle.rules.specs.Way.{wayOf, told, written}
+use Rattle.grammar.specs.declared.cut.Cell.{Cell}
+use Rattle.grammar.specs.declared.cut.Cells.{Cells}
+use Rattle.grammar.specs.declared.cut.FieldCut.{FieldCut}
+use Rattle.grammar.specs.declared.cut.FieldCut.the-variants.{Next, Last, Fault}
+use Rattle.grammar.specs.declared.cut.RowCut.{RowCut}
+use Rattle.grammar.specs.declared.cut.RowCut.the-variants.{Cut, NoRow, Broken}
+use Rattle.grammar.specs.declared.count.Counted.{Counted}
+use Rattle.grammar.specs.declared.count.Counted.the-variants.{All, UpTo}
+use Rattle.grammar.specs.declared.say.Number.the-variants.{Is}
+use Rattle.grammar.specs.Cut.{cutField, cutRow}
+use Rattle.grammar.specs.Rows.{countRows}
+use Rattle.grammar.specs.Past.{pastRow, firstDataRow}
+use Rattle.sheet.specs.Reader.{readerAt, movedOn}
+use Rattle.grammar.specs.Say.{contentAt, isWord, saysWords, numberAt}
+use Rattle.tables.specs.declared.Found.the-variants.{At, Nothing}
+use Rattle.tables.specs.declared.RightFound.the-variants as pair
+use Rattle.tables.specs.declared.WayTold.the-variants.{Length, TooShort}
+use Rattle.tables.specs.Tables.{mayBe, mostLocations}
+use Rattle.tables.specs.Below.{Tells}
+use Rattle.tables.specs.Rules.{InRange, Lawful}
+use Rattle.tables.specs.Tests.{inRange, firstNoExit, firstStray, firstNoDoor, firstNoRight, firstShutOut, lawfulB}
+use Rattle.tables.specs.Way.{wayOf, told, written}
 use Rattle.record.specs.declared.record.Record.{Record}
-use Rattle.record.specs.declared.table.Kind.{Kind}
-use Rattle.record.specs.declared.table.Kind.the-variants.{Card, Decide, Green, Red, Walk, Tick, Passed, Lapsed, Dark, Ack, Unknown}
-use Rattle.record.specs.declared.steps.Answer.{Answer}
-use Rattle.record.specs.declared.steps.Answer.the-variants.{Done, NoSuch, NotAllowed, Unsound}
+use Rattle.door.specs.declared.table.Kind.{Kind}
+use Rattle.door.specs.declared.table.Kind.the-variants.{Card, Decide, Green, Red, Walk, Tick, Passed, Lapsed, Dark, Ack, Unknown}
+use Rattle.door.specs.declared.answer.Answer.{Answer}
+use Rattle.door.specs.declared.answer.Answer.the-variants.{Done, NoSuch, NotAllowed, Unsound}
 use Rattle.record.specs.declared.steps.Step.{Step}
-use Rattle.record.specs.Answers.{numberOf}
-use Rattle.record.specs.Phase.{denied, closed}
+use Rattle.door.specs.Answers.{numberOf}
+use Rattle.door.specs.declared.Door.{Door}
+use Rattle.door.specs.declared.does.Does.{Does}
+use Rattle.door.specs.declared.does.Does.the-variants.{Stays, Turns, Moves}
+use Rattle.door.specs.Phase.{granted, expired, denied, closed, keeps, grants, mostCount}
+use Rattle.door.specs.Door.{freeDoor, doorIn}
+use Rattle.door.specs.Fits.{fieldsFit}
+use Rattle.door.specs.Does.{effect}
 use Rattle.record.specs.Doors.{freshRecord, Shaped}
-use Rattle.record.specs.Grants.{grantOf}
-use Rattle.record.specs.Kinds.{kindOf, allows, namesPerson}
-use Rattle.record.specs.Table.{asked}
+use Rattle.sound.specs.Grants.{GrantAt, grantOf}
+use Rattle.sound.specs.Reasons.{firstReason}
+use Rattle.sound.specs.SoundTest.{listsSound}
+use Rattle.door.specs.Kinds.{kindOf, allows, namesPerson}
+use Rattle.door.specs.Table.{asked}
 use Rattle.record.specs.Sound.{ZeroBeyond, Sound}
 use Rattle.record.specs.SoundTest.{soundB}
 use Rattle.record.specs.Steps.{stepOf}
 use Rattle.record.specs.Run.{rowsOf, lastOf, toldOf, answerTold, phaseTold, reasonTold, runOf, answersOf, phasesOf, reasonsOf}
 use Rattle.record.specs.Questions.{placeOf, placeNumber, placeTold, grantedTo, grantNumber, grantTold, wayAnswerOf, wayWritten, wayNumber, lengthTold}
-use Rattle.site.specs.declared.read.Verdict.{Verdict}
-use Rattle.site.specs.Site.{limit, siteOf, blankRecord, firstPlace, secondPlace}
-use Rattle.site.specs.Site as site
-use Rattle.site.specs.Gives.{Gives}
-use Rattle.run.specs.declared.steps.Heading.{Heading}
-use Rattle.run.specs.declared.steps.Heading.the-variants as heading
-use Rattle.run.specs.declared.text.Printed.{Printed}
-use Rattle.run.specs.declared.text.Printed.the-variants.{Text}
-use Rattle.run.specs.Steps.{headingOf}
-use Rattle.run.specs.Printed.{panelText, whereText, printedOf, printedNumber}
-use Rattle.run.specs.Printed as run
+use Rattle.verdict.specs.declared.Verdict.{Verdict}
+use Rattle.says.specs.Site.{limit, siteOf, blankRecord, firstPlace, secondPlace}
+use Rattle.says.specs.Site as site
+use Rattle.says.specs.Gives.{Gives}
+use Rattle.printed.specs.declared.steps.Heading.{Heading}
+use Rattle.printed.specs.declared.steps.Heading.the-variants as heading
+use Rattle.printed.specs.declared.text.Printed.{Printed}
+use Rattle.printed.specs.declared.text.Printed.the-variants.{Text}
+use Rattle.printed.specs.Steps.{headingOf}
+use Rattle.printed.specs.Printed.{panelText, whereText, printedOf, printedNumber}
+use Rattle.printed.specs.Printed as run
 
 -- ---- the order of the numbers
 
@@ -117,8 +127,20 @@ pub record SheetAnswers : Type 0 where
   pub first-data-row : (s : List ℕ) → RowTold s (pastRow s 0) (firstDataRow s)
   -- a cell that is a word has its bytes
   pub is-word : (s : List ℕ) (cell : Cell) (word : List ℕ) → isWord s cell word ≡ true → contentAt s cell ≡ word
+  -- a row that says three words has three cells, which have their bytes
+  pub says-words : (s : List ℕ) (cells : Cells) (x y z : List ℕ) → saysWords s cells x y z ≡ true
+      → (cells .count ≡ 3) × (contentAt s (cells .first) ≡ x) × (contentAt s (cells .second) ≡ y) × (contentAt s (cells .third) ≡ z)
   -- "A number is 1 to 3 digits"
   pub number-of : (s : List ℕ) (cell : Cell) (n : ℕ) → numberAt s cell ≡ Is n → n ≤ 999
+
+-- ---- crate `tables`
+
+-- past a list's end 0 is read, and nothing is written
+pub record TablesAnswers : Type 0 where
+  pub byte-at : (list : List ℕ) (at : ℕ) → length list ≤ at → getD list at 0 ≡ 0
+  pub word-at : (list : List ℕ) (at : ℕ) → length list ≤ at → getD list at 0 ≡ 0
+  pub put-byte : (list : List ℕ) (at n : ℕ) → (length (set list at n) ≡ length list) × (length list ≤ at → set list at n ≡ list)
+  pub put-word : (list : List ℕ) (at n : ℕ) → (length (set list at n) ≡ length list) × (length list ≤ at → set list at n ≡ list)
 
 -- ---- crate `rules`
 
@@ -145,6 +167,45 @@ pub record RulesAnswers : Type 0 where
   pub lawful : (people locations doors : ℕ) (origin destination exit : List ℕ) (right : List Bool)
       → Tells (lawfulB people locations doors origin destination exit right) (Lawful people locations doors origin destination exit right)
   pub way-out : (locations : ℕ) (exit : List ℕ) (from : ℕ) (list : List ℕ) → WayTells (wayOf locations exit from) list
+
+-- ---- crate `door`
+
+-- a step leaves its door in one of the ten phases, with one of the reasons told
+abbrev pub DoesTold : Does → Type 0
+DoesTold Stays = 0 ≤ closed
+DoesTold (Turns c why) = (c .phase ≤ closed) × (why ≤ 3)
+DoesTold (Moves c) = c .phase ≤ closed
+
+pub record DoorAnswers : Type 0 where
+  -- the table's numbers of steps and questions
+  pub answer-number : (a : Answer) → OneOf (0 ∷ 11 ∷ 12 ∷ 13 ∷ 14 ∷ []) (numberOf a)
+  -- a number past 9 names no step, and no phase allows that
+  pub kind-of : (n : ℕ) → 10 ≤ n → kindOf n ≡ Unknown
+  -- "one fixed table, a hundred entries": at the ten phases it says what the steps' own rules say
+  pub allowed-in : (k : Kind) (phase : ℕ) → phase ≤ closed → asked k phase ≡ allows k phase
+  -- "Phases 2 to 5 hold a grant"
+  pub grants : (phase : ℕ) → Tells (grants phase) ((granted ≤ phase) × (phase ≤ expired))
+  -- beyond its lists a door is free
+  pub among : (phase holder count : List ℕ) (d : ℕ) → length phase ≤ d → length holder ≤ d → length count ≤ d → doorIn phase holder count d ≡ freeDoor
+  pub free : freeDoor .phase ≤ closed
+  -- of a door that fits, the phase is one of the ten, a held person exists and the countdown isn't longer than its light's span
+  pub fits : (people : ℕ) (c : Door) → fieldsFit people c ≡ true
+      → (c .phase ≤ closed) × (keeps (c .phase) ≡ true → c .holder < people) × (c .count ≤ mostCount (c .phase))
+  pub does : (k : Kind) (p why : ℕ) (c : Door) → why ≤ 3 → c .phase ≤ closed → DoesTold (effect k p why c)
+
+-- ---- crate `sound`
+
+pub record SoundAnswers : Type 0 where
+  -- the door that is told is there and holds a grant of the person
+  pub grant-of : (n : ℕ) (phase holder : List ℕ) (p d : ℕ) → grantOf n phase holder p ≡ At d → GrantAt n phase holder p d
+  -- "reason 1 .., 2 .., 3 ..", and 0 for none
+  pub first-reason : (doors : ℕ) (origin destination : List ℕ) (right : List Bool) (place phase holder : List ℕ) (d p : ℕ)
+      → firstReason doors origin destination right place phase holder d p ≤ 3
+  -- lists that are told sound: "Places beyond the counts are 0", everyone is where they may be, and no person has two grants
+  pub lists-sound : (people locations doors : ℕ) (origin destination exit : List ℕ) (right : List Bool) (place phase holder count : List ℕ)
+      → listsSound people locations doors origin destination exit right place phase holder count ≡ true
+      → ZeroBeyond people locations doors origin destination exit right × ((p : ℕ) → p < people → mayBe right p (getD place p 0) ≡ true)
+      × ((p d e : ℕ) → GrantAt doors phase holder p d → GrantAt doors phase holder p e → d ≡ e)
 
 -- ---- crate `record`: a step
 
@@ -219,17 +280,11 @@ pub record WayOutTells (r : Record) (l : ℕ) (list : List ℕ) : Type 0 where
   pub unaltered : (wayNumber (wayAnswerOf r l list) ≡ 0 → ⊥) → wayWritten r l list ≡ list
 
 pub record RecordAnswers : Type 0 where
-  -- the table's numbers of steps and questions
-  pub answer-number : (a : Answer) → OneOf (0 ∷ 11 ∷ 12 ∷ 13 ∷ 14 ∷ []) (numberOf a)
   -- the test of soundness tells it, of every record whose lists are as long as its arrays
   pub is-sound : (r : Record) → Shaped r → Tells (soundB r) (Sound r)
   -- of lawful tables with 0 beyond the counts, the fresh record is sound
   pub fresh : (people locations doors : ℕ) (origin destination exit : List ℕ) (right : List Bool) → Lawful people locations doors origin destination exit right
       → ZeroBeyond people locations doors origin destination exit right → Sound (freshRecord people locations doors origin destination exit right)
-  -- a number past 9 names no step, and no phase allows that
-  pub kind-of : (n : ℕ) → 10 ≤ n → kindOf n ≡ Unknown
-  -- "one fixed table, a hundred entries": at the ten phases it says what the steps' own rules say
-  pub allowed-in : (k : Kind) (phase : ℕ) → phase ≤ closed → asked k phase ≡ allows k phase
   pub step : (r : Record) (k : Kind) (d p : ℕ) → StepTells r k d p (stepOf r k d p)
   pub step-numbered : (r : Record) (n d p : ℕ) → StepTells r (kindOf n) d p (stepOf r (kindOf n) d p)
   -- the record that is lent holds the next record at exit, so what is said of a step is said of it
@@ -294,7 +349,10 @@ pub record RunAnswers : Type 0 where
 
 pub record DemandOne : Type 0 where
   pub of-sheet : SheetAnswers
+  pub of-tables : TablesAnswers
   pub of-rules : RulesAnswers
+  pub of-door : DoorAnswers
+  pub of-sound : SoundAnswers
   pub of-record : RecordAnswers
   pub of-site : SiteAnswers
   pub of-run : RunAnswers

@@ -7,33 +7,34 @@ use mathlib.Core.Path.{_≡_}
 use mathlib.Core.List.{List, _++_}
 use mathlib.Core.Logic.{_⊎_, _↔_}
 use lib.ListN.{length, getD, drop}
-use Rattle.rules.specs.Rules.{SafeWay}
-use Rattle.rules.specs.Way.{Way}
+use Rattle.tables.specs.Rules.{SafeWay}
+use Rattle.tables.specs.Way.{Way}
 use Rattle.record.specs.declared.record.Record.{Record}
-use Rattle.record.specs.declared.table.Kind.{Kind}
-use Rattle.record.specs.declared.table.Kind.the-variants.{Decide, Green, Red, Tick}
-use Rattle.record.specs.declared.steps.Answer.the-variants.{Done, NotAllowed}
+use Rattle.door.specs.declared.table.Kind.{Kind}
+use Rattle.door.specs.declared.table.Kind.the-variants.{Decide, Green, Red, Tick}
+use Rattle.door.specs.declared.answer.Answer.the-variants.{Done, NotAllowed}
 use Rattle.record.specs.declared.steps.Step.{Step}
 use Rattle.record.specs.declared.questions.WayAnswer.the-variants.{Length}
-use Rattle.record.specs.Phase.{granted, green, expired, denied, red, dimmed}
-use Rattle.record.specs.Doors.{door, doorOf, Shaped}
+use Rattle.door.specs.Phase.{granted, green, expired, denied, red, dimmed}
+use Rattle.door.specs.Door.{door}
+use Rattle.record.specs.Doors.{doorOf, Shaped}
 use Rattle.record.specs.Sound.{Sound}
 use Rattle.record.specs.Steps.{Admitted, First, stepOf}
 use Rattle.record.specs.Run.{Row, lastOf}
 use Rattle.record.specs.Lights.{ticks, Each, NoGreenNoWalk, NoRed}
 use Rattle.record.specs.Questions.{wayAnswerOf, wayWritten}
-use Rattle.site.specs.declared.read.Verdict.the-variants.{Accepted}
-use Rattle.site.specs.Site.{siteOf}
-use Rattle.site.specs.Gives.{Obeys}
-use Rattle.site.specs.Accepted.{AcceptedRecord}
+use Rattle.verdict.specs.declared.Verdict.the-variants.{Accepted}
+use Rattle.says.specs.Site.{siteOf}
+use Rattle.says.specs.Gives.{Obeys}
+use Rattle.says.specs.Accepted.{AcceptedRecord}
 use Rattle.chapter.specs.Context.{Axioms}
 use Rattle.chapter.specs.Machines.{Same}
 use Rattle.chapter.specs.M4.{Event}
 use Rattle.chapter.specs.M4 as m4
 use Rattle.chapter.specs.Reading.{constantsOf, stateOf, StandsFor, Enabled, Idle, FirstFailing, RunOfEach}
-use Rattle.demands.specs.Serving.{heardOf}
+use Rattle.serving.specs.Serving.{heardOf}
 use Rattle.demands.specs.Cases.{freshSite}
-use Rattle.demands.specs.WholeRun.{runOf01, stepsIn}
+use Rattle.serving.specs.WholeRun.{runOf01, stepsIn}
 
 -- ---- the way outside
 

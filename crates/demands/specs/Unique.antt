@@ -5,52 +5,63 @@ use Prim.Native.Nat.{ℕ}
 use mathlib.Core.Path.{_≡_}
 use mathlib.Core.Bool.{Bool}
 use mathlib.Core.List.{List}
+use lib.ListN.{getD, set}
 use denote.Ref.{RefT, now}
 use Rattle.sheet.specs.declared.reader.Reader.{Reader}
-use Rattle.sheet.specs.declared.cut.Cell.{Cell}
-use Rattle.sheet.specs.declared.cut.FieldCut.{FieldCut}
-use Rattle.sheet.specs.declared.cut.RowCut.{RowCut}
-use Rattle.sheet.specs.declared.count.Counted.{Counted}
-use Rattle.sheet.specs.declared.say.Number.{Number}
-use Rattle.sheet.specs.Cut.{cutField, cutRow}
-use Rattle.sheet.specs.Rows.{countRows}
-use Rattle.sheet.specs.Reader.{firstDataRow, readerAt, movedOn}
-use Rattle.sheet.specs.Say.{isWord, numberAt}
-use Rattle.rules.specs.declared.Found.{Found}
-use Rattle.rules.specs.declared.RightFound.{RightFound}
-use Rattle.rules.specs.declared.WayTold.{WayTold}
-use Rattle.rules.specs.Tables.{mayBe}
-use Rattle.rules.specs.Tests.{inRange, firstNoExit, firstStray, firstNoDoor, firstNoRight, firstShutOut, lawfulB}
-use Rattle.rules.specs.Way.{wayOf, told, written}
-use Rattle.record.specs.declared.record.Door.{Door}
+use Rattle.grammar.specs.declared.cut.Cell.{Cell}
+use Rattle.grammar.specs.declared.cut.Cells.{Cells}
+use Rattle.grammar.specs.declared.cut.FieldCut.{FieldCut}
+use Rattle.grammar.specs.declared.cut.RowCut.{RowCut}
+use Rattle.grammar.specs.declared.count.Counted.{Counted}
+use Rattle.grammar.specs.declared.say.Number.{Number}
+use Rattle.grammar.specs.Cut.{cutField, cutRow}
+use Rattle.grammar.specs.Rows.{countRows}
+use Rattle.grammar.specs.Past.{firstDataRow}
+use Rattle.sheet.specs.Reader.{readerAt, movedOn}
+use Rattle.grammar.specs.Say.{isWord, saysWords, numberAt}
+use Rattle.tables.specs.declared.Found.{Found}
+use Rattle.tables.specs.declared.RightFound.{RightFound}
+use Rattle.tables.specs.declared.WayTold.{WayTold}
+use Rattle.tables.specs.Tables.{mayBe}
+use Rattle.tables.specs.Tests.{inRange, firstNoExit, firstStray, firstNoDoor, firstNoRight, firstShutOut, lawfulB}
+use Rattle.tables.specs.Way.{wayOf, told, written}
+use Rattle.door.specs.declared.Door.{Door}
 use Rattle.record.specs.declared.record.Record.{Record}
-use Rattle.record.specs.declared.table.Kind.{Kind}
-use Rattle.record.specs.declared.table.Kind.the-variants.{Card, Decide, Green, Red, Walk, Tick, Passed, Lapsed, Dark, Ack}
-use Rattle.record.specs.declared.steps.Answer.{Answer}
+use Rattle.door.specs.declared.table.Kind.{Kind}
+use Rattle.door.specs.declared.table.Kind.the-variants.{Card, Decide, Green, Red, Walk, Tick, Passed, Lapsed, Dark, Ack}
+use Rattle.door.specs.declared.answer.Answer.{Answer}
 use Rattle.record.specs.declared.steps.Step.{Step}
 use Rattle.record.specs.declared.steps.Told.{Told}
 use Rattle.record.specs.declared.series.Ran.{Ran}
 use Rattle.record.specs.declared.questions.PlaceAnswer.{PlaceAnswer}
 use Rattle.record.specs.declared.questions.GrantAnswer.{GrantAnswer}
 use Rattle.record.specs.declared.questions.WayAnswer.{WayAnswer}
-use Rattle.record.specs.Answers.{numberOf}
-use Rattle.record.specs.Doors.{freeDoor, freshRecord}
-use Rattle.record.specs.Kinds.{kindOf}
-use Rattle.record.specs.Table.{asked}
+use Rattle.door.specs.Answers.{numberOf}
+use Rattle.door.specs.declared.does.Does.{Does}
+use Rattle.door.specs.Phase.{grants}
+use Rattle.door.specs.Door.{freeDoor, doorIn}
+use Rattle.door.specs.Fits.{fieldsFit}
+use Rattle.door.specs.Does.{effect}
+use Rattle.sound.specs.Grants.{grantOf}
+use Rattle.sound.specs.Reasons.{firstReason}
+use Rattle.sound.specs.SoundTest.{listsSound}
+use Rattle.record.specs.Doors.{freshRecord}
+use Rattle.door.specs.Kinds.{kindOf}
+use Rattle.door.specs.Table.{asked}
 use Rattle.record.specs.SoundTest.{soundB}
 use Rattle.record.specs.Steps.{First, stepOf, toldBy}
 use Rattle.record.specs.Run.{runOf, answersOf, phasesOf, reasonsOf}
 use Rattle.record.specs.Questions.{placeOf, grantedTo, wayAnswerOf, wayWritten}
-use Rattle.site.specs.declared.read.Verdict.{Verdict}
-use Rattle.site.specs.declared.read.SiteRead.{SiteRead}
-use Rattle.site.specs.Site.{siteOf, firstPlace, secondPlace}
-use Rattle.site.specs.Site as site
-use Rattle.site.specs.Gives.{Gives}
-use Rattle.run.specs.declared.steps.Heading.{Heading}
-use Rattle.run.specs.declared.text.Printed.{Printed}
-use Rattle.run.specs.Steps.{headingOf}
-use Rattle.run.specs.Printed.{panelText, whereText, printedOf, printedNumber}
-use Rattle.run.specs.Printed as run
+use Rattle.verdict.specs.declared.Verdict.{Verdict}
+use Rattle.says.specs.declared.SiteRead.{SiteRead}
+use Rattle.says.specs.Site.{siteOf, firstPlace, secondPlace}
+use Rattle.says.specs.Site as site
+use Rattle.says.specs.Gives.{Gives}
+use Rattle.printed.specs.declared.steps.Heading.{Heading}
+use Rattle.printed.specs.declared.text.Printed.{Printed}
+use Rattle.printed.specs.Steps.{headingOf}
+use Rattle.printed.specs.Printed.{panelText, whereText, printedOf, printedNumber}
+use Rattle.printed.specs.Printed as run
 
 -- two answers that a promise allows are equal
 abbrev pub Unique : {A : Type 0} → (A → Type 0) → Type 0
@@ -65,7 +76,15 @@ pub record SheetUnique : Type 0 where
   pub reader-past-row : (reader : Reader) → Unique (λ (x : Reader). x ≡ movedOn reader)
   pub first-data-row : (s : List ℕ) → Unique (λ (x : RowCut). x ≡ firstDataRow s)
   pub is-word : (s : List ℕ) (cell : Cell) (word : List ℕ) → Unique (λ (x : Bool). x ≡ isWord s cell word)
+  pub says-words : (s : List ℕ) (cells : Cells) (x y z : List ℕ) → Unique (λ (b : Bool). b ≡ saysWords s cells x y z)
   pub number-of : (s : List ℕ) (cell : Cell) → Unique (λ (x : Number). x ≡ numberAt s cell)
+
+pub record TablesUnique : Type 0 where
+  pub byte-at : (list : List ℕ) (at : ℕ) → Unique (λ (x : ℕ). x ≡ getD list at 0)
+  pub word-at : (list : List ℕ) (at : ℕ) → Unique (λ (x : ℕ). x ≡ getD list at 0)
+  -- the lent list at exit
+  pub put-byte : (list : List ℕ) (at n : ℕ) → Unique (λ (x : List ℕ). x ≡ set list at n)
+  pub put-word : (list : List ℕ) (at n : ℕ) → Unique (λ (x : List ℕ). x ≡ set list at n)
 
 pub record RulesUnique : Type 0 where
   pub may-be : (right : List Bool) (p l : ℕ) → Unique (λ (x : Bool). x ≡ mayBe right p l)
@@ -85,14 +104,27 @@ pub record RulesUnique : Type 0 where
   pub way-out : (locations : ℕ) (exit : List ℕ) (from : ℕ) (list : List ℕ)
       → Unique (λ (x : WayTold × List ℕ). (x .0 ≡ told (wayOf locations exit from) list) × (x .1 ≡ written (wayOf locations exit from) list))
 
-pub record RecordUnique : Type 0 where
-  pub door-free : Unique (λ (x : Door). x ≡ freeDoor)
-  pub fresh : (people locations doors : ℕ) (origin destination exit : List ℕ) (right : List Bool)
-      → Unique (λ (x : Record). x ≡ freshRecord people locations doors origin destination exit right)
-  pub is-sound : (r : Record) → Unique (λ (x : Bool). x ≡ soundB r)
+pub record DoorUnique : Type 0 where
   pub answer-number : (a : Answer) → Unique (λ (x : ℕ). x ≡ numberOf a)
   pub kind-of : (n : ℕ) → Unique (λ (x : Kind). x ≡ kindOf n)
   pub allowed-in : (k : Kind) (phase : ℕ) → Unique (λ (x : Bool). x ≡ asked k phase)
+  pub grants : (phase : ℕ) → Unique (λ (x : Bool). x ≡ grants phase)
+  pub among : (phase holder count : List ℕ) (d : ℕ) → Unique (λ (x : Door). x ≡ doorIn phase holder count d)
+  pub free : Unique (λ (x : Door). x ≡ freeDoor)
+  pub fits : (people : ℕ) (c : Door) → Unique (λ (x : Bool). x ≡ fieldsFit people c)
+  pub does : (k : Kind) (p why : ℕ) (c : Door) → Unique (λ (x : Does). x ≡ effect k p why c)
+
+pub record SoundUnique : Type 0 where
+  pub grant-of : (n : ℕ) (phase holder : List ℕ) (p : ℕ) → Unique (λ (x : Found). x ≡ grantOf n phase holder p)
+  pub first-reason : (doors : ℕ) (origin destination : List ℕ) (right : List Bool) (place phase holder : List ℕ) (d p : ℕ)
+      → Unique (λ (x : ℕ). x ≡ firstReason doors origin destination right place phase holder d p)
+  pub lists-sound : (people locations doors : ℕ) (origin destination exit : List ℕ) (right : List Bool) (place phase holder count : List ℕ)
+      → Unique (λ (x : Bool). x ≡ listsSound people locations doors origin destination exit right place phase holder count)
+
+pub record RecordUnique : Type 0 where
+  pub fresh : (people locations doors : ℕ) (origin destination exit : List ℕ) (right : List Bool)
+      → Unique (λ (x : Record). x ≡ freshRecord people locations doors origin destination exit right)
+  pub is-sound : (r : Record) → Unique (λ (x : Bool). x ≡ soundB r)
   pub step : (r : Record) (k : Kind) (d p : ℕ) → Unique (λ (x : Step). x ≡ stepOf r k d p)
   pub step-numbered : (r : Record) (n d p : ℕ) → Unique (λ (x : Step). x ≡ stepOf r (kindOf n) d p)
   -- what is told, and the lent record at exit
@@ -145,7 +177,10 @@ pub record PapersUnique : Type 0 where
 
 pub record AnswersUnique : Type 0 where
   pub of-sheet : SheetUnique
+  pub of-tables : TablesUnique
   pub of-rules : RulesUnique
+  pub of-door : DoorUnique
+  pub of-sound : SoundUnique
   pub of-record : RecordUnique
   pub of-site : SiteUnique
   pub of-run : RunUnique

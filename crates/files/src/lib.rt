@@ -1,9 +1,9 @@
 // What the programs take from outside: sheets from files, and a number from the command line.
 ghost use Rattle.files.specs.{Asked};
 ghost use Rattle.io.specs.Counts.{Counts};
+use grammar::cut::Cell;
+use grammar::say::Number;
 use sheet::LIMIT;
-use sheet::cut::Cell;
-use sheet::say::Number;
 use sheet::say::number_of;
 
 // One byte more than a sheet may have, so that a longer file is seen to be longer.

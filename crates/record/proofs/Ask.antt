@@ -11,21 +11,21 @@ use native.Mathlib.Omega.{arith}
 use borrow.Author.Tests.{eqb-true, ltb-true, lt-ltb}
 use lib.ListN.{length, getD}
 use lib.Dec.{eqb, ltb}
-use Rattle.rules.specs.Tables.{mayBe, orElse, andAlso}
-use Rattle.rules.specs.Way.{wayOf}
-use Rattle.rules.specs.Rules.{SafeWay}
-use Rattle.rules.specs.declared.Found.the-variants as found
-use Rattle.rules.proofs.Laws.{clash, and-left, and-right}
-use Rattle.rules.proofs.WayOut.{way-is-safe, way-at-most-31}
+use Rattle.tables.specs.Tables.{mayBe, orElse, andAlso}
+use Rattle.tables.specs.Way.{wayOf}
+use Rattle.tables.specs.Rules.{SafeWay}
+use Rattle.tables.specs.declared.Found.the-variants as found
+use Rattle.tables.proofs.Laws.{clash, and-left, and-right}
+use Rattle.tables.proofs.WayOut.{way-is-safe, way-at-most-31}
 use Rattle.record.specs.declared.record.Record.{Record}
 use Rattle.record.specs.declared.questions.PlaceAnswer.the-variants as place
 use Rattle.record.specs.declared.questions.GrantAnswer.the-variants as grant
 use Rattle.record.specs.Doors.{Shaped}
-use Rattle.record.specs.Grants.{GrantAt}
+use Rattle.sound.specs.Grants.{GrantAt}
 use Rattle.record.specs.Sound.{rightAt, Sound}
 use Rattle.record.specs.Questions.{placeOf, grantedTo}
-use Rattle.record.proofs.Cases.{below-or-not}
-use Rattle.record.proofs.Granting.{grant-is, no-door}
+use Rattle.sound.proofs.Cases.{below-or-not}
+use Rattle.sound.proofs.Granting.{grant-is, no-door}
 use Rattle.record.proofs.Tells.{sound-tells}
 
 -- where a person may be is a location of the site

@@ -8,24 +8,25 @@ use native.Mathlib.Omega.{arith}
 use borrow.Author.Tests.{ltb-true, not-true, not-false}
 use lib.ListN.{getD}
 use lib.Dec.{ltb}
-use Rattle.rules.specs.Tables.{orElse}
-use Rattle.rules.proofs.Laws.{and-right}
-use Rattle.record.specs.declared.record.Door.{Door}
+use Rattle.tables.specs.Tables.{orElse}
+use Rattle.tables.proofs.Laws.{and-right}
+use Rattle.door.specs.declared.Door.{Door}
 use Rattle.record.specs.declared.record.Record.{Record}
-use Rattle.record.specs.declared.table.Kind.{Kind}
-use Rattle.record.specs.declared.table.Kind.the-variants.{Card, Decide, Green, Red, Walk, Tick, Passed, Lapsed, Dark, Ack, Unknown}
-use Rattle.record.specs.declared.steps.Answer.the-variants.{NoSuch, NotAllowed}
+use Rattle.door.specs.declared.table.Kind.{Kind}
+use Rattle.door.specs.declared.table.Kind.the-variants.{Card, Decide, Green, Red, Walk, Tick, Passed, Lapsed, Dark, Ack, Unknown}
+use Rattle.door.specs.declared.answer.Answer.the-variants.{NoSuch, NotAllowed}
 use Rattle.record.specs.declared.steps.Deed.{Deed}
 use Rattle.record.specs.declared.steps.Step.{Step}
-use Rattle.record.specs.Phase.{closed}
+use Rattle.door.specs.Phase.{closed}
 use Rattle.record.specs.Doors.{doorOf}
-use Rattle.record.specs.Kinds.{namesPerson}
-use Rattle.record.specs.Table.{asked}
+use Rattle.door.specs.Kinds.{namesPerson}
+use Rattle.door.specs.Table.{asked}
 use Rattle.record.specs.Sound.{Sound}
-use Rattle.record.specs.Steps.{reasonFor, effect, act, refused, exist, soundStep}
+use Rattle.door.specs.Does.{effect}
+use Rattle.record.specs.Steps.{reasonFor, act, refused, exist, soundStep}
 use Rattle.record.specs.Deeds.{recordOf, carried, Known}
-use Rattle.record.proofs.Cases.{below-or-not}
-use Rattle.record.proofs.Entries.{table-allows}
+use Rattle.sound.proofs.Cases.{below-or-not}
+use Rattle.door.proofs.Entries.{table-allows}
 
 -- a sound record's lists are as `judge` asks
 pub known : (r : Record) → Sound r → Known (r .people) (r .phase)
@@ -38,28 +39,42 @@ known r s =
           (λ h. let is : getD (r .phase) d 0 ≡ 0 = ap (λ (x : Door). x .phase) (s .zero-doors d h) in omega arith) (below-or-not d (r .doors));
     }
 
--- only `decide` looks at the reason
-only-decide : (k : Kind) (p why reason : ℕ) (c : Door) → (k ≡ Decide → why ≡ reason) → effect k p why c ≡ effect k p reason c
+-- only `card` looks at the person, and only `decide` at the reason
+same-effect : (k : Kind) (p q why reason : ℕ) (c : Door) → (k ≡ Card → p ≡ q) → (k ≡ Decide → why ≡ reason) → effect k p why c ≡ effect k q reason c
 unfolding effect
-only-decide Card p why reason c is = refl
-only-decide Decide p why reason c is = rw (is refl)
-only-decide Green p why reason c is = refl
-only-decide Red p why reason c is = refl
-only-decide Walk p why reason c is = refl
-only-decide Tick p why reason c is = refl
-only-decide Passed p why reason c is = refl
-only-decide Lapsed p why reason c is = refl
-only-decide Dark p why reason c is = refl
-only-decide Ack p why reason c is = refl
-only-decide Unknown p why reason c is = refl
+same-effect Card p q why reason c person is = rw (person refl)
+same-effect Decide p q why reason c person is = rw (is refl)
+same-effect Green p q why reason c person is = refl
+same-effect Red p q why reason c person is = refl
+same-effect Walk p q why reason c person is = refl
+same-effect Tick p q why reason c person is = refl
+same-effect Passed p q why reason c person is = refl
+same-effect Lapsed p q why reason c person is = refl
+same-effect Dark p q why reason c person is = refl
+same-effect Ack p q why reason c person is = refl
+same-effect Unknown p q why reason c person is = refl
+
+-- every other step names no person
+pub others-name-none : (k : Kind) → (k ≡ Card → ⊥) → namesPerson k ≡ false
+others-name-none Card ne = absurd (ne refl)
+others-name-none Decide ne = refl
+others-name-none Green ne = refl
+others-name-none Red ne = refl
+others-name-none Walk ne = refl
+others-name-none Tick ne = refl
+others-name-none Passed ne = refl
+others-name-none Lapsed ne = refl
+others-name-none Dark ne = refl
+others-name-none Ack ne = refl
+others-name-none Unknown ne = refl
 
 -- the person of a card that exists
 pub card-person : (people doors : ℕ) (k : Kind) (d p : ℕ) (e : Bool) → ((t : Record) → t .people ≡ people → t .doors ≡ doors → e ≡ exist t k d p)
-    → not e ≡ false → namesPerson k ≡ true → p < people
+    → not e ≡ false → k ≡ Card → p < people
 unfolding exist orElse
-card-person people doors k d p e exists some n =
+card-person people doors k d p e exists some card =
     let told = exists (recordOf people 0 doors [] [] [] [] [] [] [] []) refl refl in
-    ltb-true p people (rw n at (and-right (ltb d doors) _ (sym told ∙ not-false e some)))
+    ltb-true p people (rw card at (and-right (ltb d doors) _ (sym told ∙ not-false e some)))
 
 -- ---- what the tests of a step tell: e whether the numbers exist, a what the table says of the door's phase
 
@@ -74,12 +89,12 @@ module _ (r : Record) (k : Kind) (d p : ℕ) (e : Bool) (exists : e ≡ exist r 
     judged-barred barred =
         rw (is, ← exists, not-false e some, ← (table-allows k (getD (r .phase) d 0) fits), ← (rw is at says), not-true a barred)
 
-    pub judged-done : not a ≡ false → (why : ℕ) → (k ≡ Decide → why ≡ reasonFor r d (now .holder))
-        → (deed : Deed) → carried r d deed ≡ act r d (effect k p why now) → carried r d deed ≡ soundStep r k d p
+    pub judged-done : not a ≡ false → (q why : ℕ) → (k ≡ Card → q ≡ p) → (k ≡ Decide → why ≡ reasonFor r d (now .holder))
+        → (deed : Deed) → carried r d deed ≡ act r d (effect k q why now) → carried r d deed ≡ soundStep r k d p
     unfolding soundStep
-    judged-done allowed why reason deed does =
+    judged-done allowed q why person reason deed does =
         rw (← exists, not-false e some, ← (table-allows k (getD (r .phase) d 0) fits), ← (rw is at says), not-false a allowed)
-        (does ∙ rw is (ap (act r d) (only-decide k p why _ (doorOf r d) (rw is at reason))))
+        (does ∙ rw is (ap (act r d) (same-effect k q p why _ (doorOf r d) person (rw is at reason))))
 
 -- a deed that is judged so and carried out is the step
 pub stepped : (r : Record) (k : Kind) (d p : ℕ) (deed : Deed) (s : Step) → s ≡ carried r d deed → carried r d deed ≡ soundStep r k d p → s ≡ soundStep r k d p

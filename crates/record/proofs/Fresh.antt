@@ -6,13 +6,14 @@ use mathlib.Core.List.{List}
 use mathlib.Core.Logic.{⊎-elim}
 use lib.ListN.{length, getD, length-replicate, getD-replicate, List·getD-eq-default}
 use lib.Dec.{lit≤}
-use Rattle.rules.specs.Tables.{mayBe, orElse, andAlso}
-use Rattle.rules.specs.Rules.{Lawful}
+use Rattle.tables.specs.Tables.{mayBe, orElse, andAlso}
+use Rattle.tables.specs.Rules.{Lawful}
 use Rattle.record.specs.declared.record.Record.{Record}
-use Rattle.record.specs.Phase.{keeps, grants, lit, leastCount, mostCount}
-use Rattle.record.specs.Doors.{door, doorOf, freeDoor, zeros, freshRecord, Shaped}
+use Rattle.door.specs.Phase.{keeps, grants, lit, leastCount, mostCount}
+use Rattle.door.specs.Door.{door, freeDoor}
+use Rattle.record.specs.Doors.{doorOf, zeros, freshRecord, Shaped}
 use Rattle.record.specs.Sound.{ZeroBeyond, DoorOk, Sound}
-use Rattle.record.proofs.Cases.{below-or-not}
+use Rattle.sound.proofs.Cases.{below-or-not}
 
 pub zeros-long : (n : ℕ) → length (zeros n) ≡ n
 unfolding zeros

@@ -7,14 +7,14 @@ use mathlib.Core.Logic.{⊎-elim}
 use native.Mathlib.Omega.{arith}
 use lib.ListN.{length, getD, set, length-set}
 use lib.Seq.{getD-set-same, getD-set-other}
-use Rattle.rules.specs.Tables.{mayBe}
-use Rattle.record.specs.declared.record.Door.{Door}
+use Rattle.tables.specs.Tables.{mayBe}
+use Rattle.door.specs.declared.Door.{Door}
 use Rattle.record.specs.declared.record.Record.{Record}
-use Rattle.record.specs.Phase.{grants}
+use Rattle.door.specs.Phase.{grants}
 use Rattle.record.specs.Doors.{doorOf, putDoor, putAt, Shaped}
-use Rattle.record.specs.Grants.{GrantAt}
+use Rattle.sound.specs.Grants.{GrantAt}
 use Rattle.record.specs.Sound.{DoorOk, Sound}
-use Rattle.record.proofs.Cases.{same-or-not}
+use Rattle.sound.proofs.Cases.{same-or-not}
 
 -- ---- what is read after a put
 

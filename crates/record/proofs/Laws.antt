@@ -24,25 +24,29 @@ use mathlib.Core.List.{List, [], _∷_}
 use lib.ListN.{getD}
 use lib.Dec.{eqb, ltb}
 use lib.Seq.{getD-set-same, getD-set-other}
-use Rattle.rules.specs.Tables.{orElse, andAlso}
-use Rattle.rules.proofs.Laws.{and-left, and-right, and-both, clash}
-use Rattle.record.specs.declared.record.Door.{Door}
+use Rattle.tables.specs.Tables.{orElse, andAlso}
+use Rattle.tables.proofs.Laws.{and-left, and-right, and-both, clash}
+use Rattle.door.specs.declared.Door.{Door}
 use Rattle.record.specs.declared.record.Record.{Record}
-use Rattle.record.specs.declared.table.Kind.{Kind}
-use Rattle.record.specs.declared.table.Kind.the-variants.{Card, Decide, Green, Red, Walk, Tick, Passed, Lapsed, Dark, Ack, Unknown}
-use Rattle.record.specs.declared.steps.Answer.{Answer}
-use Rattle.record.specs.declared.steps.Answer.the-variants.{Done, NoSuch, NotAllowed, Unsound}
+use Rattle.door.specs.declared.table.Kind.{Kind}
+use Rattle.door.specs.declared.table.Kind.the-variants.{Card, Decide, Green, Red, Walk, Tick, Passed, Lapsed, Dark, Ack, Unknown}
+use Rattle.door.specs.declared.answer.Answer.{Answer}
+use Rattle.door.specs.declared.answer.Answer.the-variants.{Done, NoSuch, NotAllowed, Unsound}
 use Rattle.record.specs.declared.steps.Step.{Step}
-use Rattle.record.specs.Phase.{free, granted, green, walked, expired, denied, red, dimmed, closed, keeps, grants, lit}
-use Rattle.record.specs.Doors.{door, doorOf, Tables, tablesOf, Shaped}
-use Rattle.record.specs.Grants.{GrantAt}
+use Rattle.door.specs.Phase.{free, granted, green, walked, expired, denied, red, dimmed, closed, keeps, grants, lit}
+use Rattle.door.specs.Door.{door}
+use Rattle.record.specs.Doors.{doorOf, Tables, tablesOf, Shaped}
+use Rattle.sound.specs.Grants.{GrantAt}
 use Rattle.record.specs.Sound.{Sound}
 use Rattle.record.specs.SoundTest.{soundB}
-use Rattle.record.specs.Kinds.{allows, namesPerson}
-use Rattle.record.specs.Steps.{reasonFor, Admitted, First, Does, stays, turns, moves, burns, effect, act, refused, exist, doing, soundStep, stepOf}
+use Rattle.door.specs.Kinds.{allows, namesPerson}
+use Rattle.door.specs.declared.does.Does.{Does}
+use Rattle.door.specs.declared.does.Does.the-variants.{Stays, Turns, Moves}
+use Rattle.door.specs.Does.{burns, effect}
+use Rattle.record.specs.Steps.{reasonFor, Admitted, First, act, refused, exist, doing, soundStep, stepOf}
 use Rattle.record.specs.Run.{Row, rowOf, lastOf}
 use Rattle.record.specs.Lights.{isTick, ticks, Each, end, step, NoGreenNoWalk, NoRed}
-use Rattle.record.proofs.Cases.{either, same-or-not, one-of}
+use Rattle.sound.proofs.Cases.{either, same-or-not, one-of}
 use Rattle.record.proofs.Keep.{put-same, put-other}
 use Rattle.record.proofs.Tells.{sound-tells}
 use Rattle.record.proofs.Right.{reason-first, admitted, admits, grants-keeps, right, act-sound, act-shaped}
@@ -129,9 +133,9 @@ shaped-stays r k d p sh = step-cases (λ x. Shaped (x .next)) r k d p (λ _ _ _.
 
 act-tables : (r : Record) (d : ℕ) (x : Does) → tablesOf (act r d x .next) ≡ tablesOf r
 unfolding act
-act-tables r d stays = refl
-act-tables r d (turns c why) = refl
-act-tables r d (moves c) = refl
+act-tables r d Stays = refl
+act-tables r d (Turns c why) = refl
+act-tables r d (Moves c) = refl
 
 pub tables-stay : (r : Record) (k : Kind) (d p : ℕ) → tablesOf (stepOf r k d p .next) ≡ tablesOf r
 tables-stay r k d p =
@@ -139,18 +143,18 @@ tables-stay r k d p =
 
 act-others : (r : Record) (d : ℕ) (x : Does) (e : ℕ) → (e ≡ d → ⊥) → doorOf (act r d x .next) e ≡ doorOf r e
 unfolding act
-act-others r d stays e ne = refl
-act-others r d (turns c why) e ne = put-other r d c e ne
-act-others r d (moves c) e ne = put-other r d c e ne
+act-others r d Stays e ne = refl
+act-others r d (Turns c why) e ne = put-other r d c e ne
+act-others r d (Moves c) e ne = put-other r d c e ne
 
 pub others-stay : (r : Record) (k : Kind) (d p e : ℕ) → (e ≡ d → ⊥) → doorOf (stepOf r k d p .next) e ≡ doorOf r e
 others-stay r k d p e ne = step-cases (λ x. doorOf (x .next) e ≡ doorOf r e) r k d p (λ _ _ _. refl) (λ _. act-others r d (doing r k d p) e ne)
 
 pub act-done : (r : Record) (d : ℕ) (x : Does) → act r d x .answer ≡ Done
 unfolding act
-act-done r d stays = refl
-act-done r d (turns c why) = refl
-act-done r d (moves c) = refl
+act-done r d Stays = refl
+act-done r d (Turns c why) = refl
+act-done r d (Moves c) = refl
 
 pub refused-stays : (r : Record) (k : Kind) (d p : ℕ) → (stepOf r k d p .answer ≡ Done → ⊥) → stepOf r k d p .next ≡ r
 refused-stays r k d p =
@@ -225,26 +229,26 @@ granted-exactly r d p e =
 
 -- the door after what is done, and the reason that is told
 abbrev pub becomes : Door → Does → Door
-becomes c stays = c
-becomes c (turns x why) = x
-becomes c (moves x) = x
+becomes c Stays = c
+becomes c (Turns x why) = x
+becomes c (Moves x) = x
 
 abbrev pub tells : Does → ℕ
-tells stays = 0
-tells (turns x why) = why
-tells (moves x) = 0
+tells Stays = 0
+tells (Turns x why) = why
+tells (Moves x) = 0
 
 act-door : (r : Record) → Shaped r → (d : ℕ) → d < 64 → (x : Does) → doorOf (act r d x .next) d ≡ becomes (doorOf r d) x
 unfolding act
-act-door r sh d h stays = refl
-act-door r sh d h (turns c why) = put-same r sh d c h
-act-door r sh d h (moves c) = put-same r sh d c h
+act-door r sh d h Stays = refl
+act-door r sh d h (Turns c why) = put-same r sh d c h
+act-door r sh d h (Moves c) = put-same r sh d c h
 
 act-tells : (r : Record) (d : ℕ) (x : Does) → act r d x .reason ≡ tells x
 unfolding act
-act-tells r d stays = refl
-act-tells r d (turns c why) = refl
-act-tells r d (moves c) = refl
+act-tells r d Stays = refl
+act-tells r d (Turns c why) = refl
+act-tells r d (Moves c) = refl
 
 pub door-after : (r : Record) (k : Kind) (d p : ℕ) → Shaped r → Sound r → stepOf r k d p .answer ≡ Done
     → doorOf (stepOf r k d p .next) d ≡ becomes (doorOf r d) (doing r k d p)
@@ -265,7 +269,7 @@ pub record Left (c : Door) : Type 0 where
   pub nobody : keeps (c .phase) ≡ false
   pub dropped : c .holder ≡ 0
 
-pub record Stays (before after : Door) : Type 0 where
+pub record HeldOn (before after : Door) : Type 0 where
   pub kept : keeps (after .phase) ≡ true
   pub same : after .holder ≡ before .holder
 
@@ -288,19 +292,19 @@ out : {A : Type 0} (ph a : ℕ) → keeps a ≡ false → eqb ph a ≡ true → 
 out ph a no-one e k = clash k (rw (eqb-true ph a e) no-one)
 
 here : (k : Kind) (p why : ℕ) (c : Door) → allows k (c .phase) ≡ true → keeps (c .phase) ≡ true → (Ends k (tells (effect k p why c)) → ⊥)
-    → Stays c (becomes c (effect k p why c))
+    → HeldOn c (becomes c (effect k p why c))
 unfolding effect allows keeps andAlso
 here Card p why c e k on = out (c .phase) free refl e k
 here Decide p why c e k on =
-    either (λ x. (Ends Decide (tells x) → ⊥) → Stays c (becomes c x)) (eqb why 0) (λ _ _. record { kept = refl; same = refl })
+    either (λ x. (Ends Decide (tells x) → ⊥) → HeldOn c (becomes c x)) (eqb why 0) (λ _ _. record { kept = refl; same = refl })
     (λ z no-end. absurd (no-end (denial (eqb-false why 0 z)))) on
 here Green p why c e k on = record { kept = refl; same = refl }
 here Red p why c e k on = ⊎-elim (λ q. clash k (rw q refl)) (λ q. clash k (rw q refl)) (one-of (c .phase) denied red e)
 here Walk p why c e k on = record { kept = refl; same = refl }
 here Tick p why c e k on =
-    either (λ x. Stays c (becomes c x)) (eqb (c .phase) green)
-    (λ _. either (λ x. Stays c (becomes c x)) (ltb 1 (c .count)) (λ _. record { kept = k; same = refl }) (λ _. record { kept = refl; same = refl }))
-    (λ _. either (λ x. Stays c (becomes c x)) (eqb (c .phase) red) (λ q. out (c .phase) red refl q k) (λ _. record { kept = k; same = refl }))
+    either (λ x. HeldOn c (becomes c x)) (eqb (c .phase) green)
+    (λ _. either (λ x. HeldOn c (becomes c x)) (ltb 1 (c .count)) (λ _. record { kept = k; same = refl }) (λ _. record { kept = refl; same = refl }))
+    (λ _. either (λ x. HeldOn c (becomes c x)) (eqb (c .phase) red) (λ q. out (c .phase) red refl q k) (λ _. record { kept = k; same = refl }))
 here Passed p why c e k on = absurd (on passing)
 here Lapsed p why c e k on = absurd (on lapsing)
 here Dark p why c e k on = out (c .phase) dimmed refl e k
@@ -309,11 +313,11 @@ here Unknown p why c e k on = absurd (false≢true e)
 
 -- .. and at no other step
 pub holds-on : (r : Record) (k : Kind) (d p : ℕ) → Shaped r → Sound r → stepOf r k d p .answer ≡ Done → keeps (getD (r .phase) d 0) ≡ true
-    → (Ends k (stepOf r k d p .reason) → ⊥) → Stays (doorOf r d) (doorOf (stepOf r k d p .next) d)
+    → (Ends k (stepOf r k d p .reason) → ⊥) → HeldOn (doorOf r d) (doorOf (stepOf r k d p .next) d)
 holds-on r k d p sh s e kept on =
     let w = done-did r k d p e in
     let told : stepOf r k d p .reason ≡ tells (doing r k d p) = rw (w .1) (act-tells r d (doing r k d p)) in
-    subst (Stays (doorOf r d)) (sym (door-after r k d p sh s e))
+    subst (HeldOn (doorOf r d)) (sym (door-after r k d p sh s e))
     (here k p (reasonFor r d (getD (r .holder) d 0)) (doorOf r d) (w .0 .allowed) kept (rw told at on))
 
 -- "so that `lapsed` frees [some]body": after `lapsed` the person whom the door held has no grant

@@ -7,27 +7,32 @@ use native.Mathlib.Omega.{arith}
 use borrow.Author.Tests.{eqb-true, eqb-false, ltb-true, eq-eqb, ne-eqb, le-leb, leb-true}
 use lib.ListN.{getD}
 use lib.Dec.{eqb, ltb, lit≤}
-use Rattle.rules.specs.Tables.{mayBe, orElse, andAlso}
-use Rattle.rules.proofs.Laws.{and-left, and-right, and-both, clash}
-use Rattle.record.specs.declared.record.Door.{Door}
+use Rattle.tables.specs.Tables.{mayBe, orElse, andAlso}
+use Rattle.tables.proofs.Laws.{and-left, and-right, and-both, clash}
+use Rattle.door.specs.declared.Door.{Door}
 use Rattle.record.specs.declared.record.Record.{Record}
-use Rattle.record.specs.declared.table.Kind.{Kind}
-use Rattle.record.specs.declared.table.Kind.the-variants.{Card, Decide, Green, Red, Walk, Tick, Passed, Lapsed, Dark, Ack, Unknown}
-use Rattle.record.specs.Phase.{free, read, granted, green, walked, expired, denied, red, dimmed, closed, keeps, grants, lit, leastCount, mostCount}
-use Rattle.record.specs.Doors.{door, doorOf, putDoor, Shaped}
+use Rattle.door.specs.declared.table.Kind.{Kind}
+use Rattle.door.specs.declared.table.Kind.the-variants.{Card, Decide, Green, Red, Walk, Tick, Passed, Lapsed, Dark, Ack, Unknown}
+use Rattle.door.specs.Phase.{free, read, granted, green, walked, expired, denied, red, dimmed, closed, keeps, grants, lit, leastCount, mostCount}
+use Rattle.door.specs.Door.{door}
+use Rattle.record.specs.Doors.{doorOf, putDoor, Shaped}
 use Rattle.record.specs.Sound.{DoorOk, Sound}
-use Rattle.record.specs.Kinds.{allows, namesPerson}
-use Rattle.record.specs.Grants.{GrantAt, hasGrant}
-use Rattle.record.specs.Steps.{reasonFor, Admitted, First, none, away, barred, busy, Does, stays, turns, moves, burns, effect, act}
-use Rattle.record.proofs.Cases.{either, same-or-not, one-of}
-use Rattle.record.proofs.Granting.{no-grant, has-grant, none-found, one-found}
+use Rattle.door.specs.Kinds.{allows, namesPerson}
+use Rattle.sound.specs.Grants.{GrantAt, hasGrant}
+use Rattle.door.specs.declared.does.Does.{Does}
+use Rattle.door.specs.declared.does.Does.the-variants.{Stays, Turns, Moves}
+use Rattle.door.specs.Does.{burns, effect}
+use Rattle.sound.specs.Reasons.{firstReason}
+use Rattle.record.specs.Steps.{reasonFor, Admitted, First, none, away, barred, busy, act}
+use Rattle.sound.proofs.Cases.{either, same-or-not, one-of}
+use Rattle.sound.proofs.Granting.{no-grant, has-grant, none-found, one-found}
 use Rattle.record.proofs.Keep.{put-same, put-grant, put-sound, put-shaped, at-sound, at-shaped}
 
 -- ---- a denial's reason
 
 -- the reason is the first that applies, and none where the person is admitted
 pub reason-first : (r : Record) (d p : ℕ) → First r d p (reasonFor r d p)
-unfolding reasonFor
+unfolding firstReason
 reason-first r d p =
     either (First r d p) (eqb (getD (r .place) p 0) (getD (r .origin) d 0))
     (λ at.
@@ -41,7 +46,7 @@ reason-first r d p =
 
 -- and it is no other
 pub reason-only : (r : Record) (d p n : ℕ) → First r d p n → reasonFor r d p ≡ n
-unfolding reasonFor
+unfolding firstReason
 reason-only r d p n (none a) = simp (eq-eqb _ _ (a .at-origin), a .has-right, none-found (r .doors) (r .phase) (r .holder) p (a .no-grant))
 reason-only r d p n (away a) = simp (ne-eqb _ _ a)
 reason-only r d p n (barred a b) = simp (eq-eqb _ _ a, b)
@@ -110,9 +115,9 @@ grant-of r d c ok g =
 -- ---- what a step does is right
 
 abbrev Right : Record → ℕ → Does → Type 0
-Right r d stays = Unit {0}
-Right r d (turns c why) = DoorOk r d c
-Right r d (moves c) = DoorOk r d c × (grants (c .phase) ≡ false) × (grants (getD (r .phase) d 0) ≡ true)
+Right r d Stays = Unit {0}
+Right r d (Turns c why) = DoorOk r d c
+Right r d (Moves c) = DoorOk r d c × (grants (c .phase) ≡ false) × (grants (getD (r .phase) d 0) ≡ true)
 
 module _ (r : Record) (d : ℕ) (ok : DoorOk r d (doorOf r d)) where
   right-card : (p why : ℕ) → p < r .people → Right r d (effect Card p why (doorOf r d))
@@ -201,9 +206,9 @@ module _ (r : Record) (d : ℕ) (ok : DoorOk r d (doorOf r d)) where
 -- doing what is right keeps a sound record sound
 pub act-sound : (r : Record) → Shaped r → Sound r → (d : ℕ) → d < r .doors → (x : Does) → Right r d x → Sound (act r d x .next)
 unfolding act
-act-sound r sh s d hd stays ok = s
-act-sound r sh s d hd (turns c why) ok = put-sound r sh s d c hd ok
-act-sound r sh s d hd (moves c) ok =
+act-sound r sh s d hd Stays ok = s
+act-sound r sh s d hd (Turns c why) ok = put-sound r sh s d c hd ok
+act-sound r sh s d hd (Moves c) ok =
     let was = grant-of r d (doorOf r d) (s .doors d hd) (ok .2) in
     at-sound (putDoor r d c) (put-shaped r sh d c) (put-sound r sh s d c hd (ok .0)) (getD (r .holder) d 0) (getD (r .destination) d 0) (was .exists) (was .may)
     (λ e g.
@@ -215,6 +220,6 @@ act-sound r sh s d hd (moves c) ok =
 
 pub act-shaped : (r : Record) → Shaped r → (d : ℕ) (x : Does) → Shaped (act r d x .next)
 unfolding act
-act-shaped r sh d stays = sh
-act-shaped r sh d (turns c why) = put-shaped r sh d c
-act-shaped r sh d (moves c) = at-shaped (putDoor r d c) (put-shaped r sh d c) (getD (r .holder) d 0) (getD (r .destination) d 0)
+act-shaped r sh d Stays = sh
+act-shaped r sh d (Turns c why) = put-shaped r sh d c
+act-shaped r sh d (Moves c) = at-shaped (putDoor r d c) (put-shaped r sh d c) (getD (r .holder) d 0) (getD (r .destination) d 0)

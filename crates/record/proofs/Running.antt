@@ -8,15 +8,15 @@ use native.Mathlib.Omega.{arith}
 use borrow.Author.Tests.{not-true, not-false}
 use lib.ListN.{length, getD, set, drop, length-set, drop-of-length-le}
 use lib.Seq.{sets, drop-cons}
-use Rattle.rules.specs.Tables.{andAlso}
-use Rattle.rules.proofs.Laws.{tell-and, tell-le}
+use Rattle.tables.specs.Tables.{andAlso}
+use Rattle.tables.proofs.Laws.{tell-and, tell-le}
 use Rattle.record.specs.declared.record.Record.{Record}
 use Rattle.record.specs.declared.steps.Step.{Step}
-use Rattle.record.specs.declared.steps.Answer.the-variants.{Done, TooShort, Unsound}
+use Rattle.door.specs.declared.answer.Answer.the-variants.{Done, TooShort, Unsound}
 use Rattle.record.specs.declared.series.Ran.{Ran}
-use Rattle.record.specs.Answers.{numberOf}
+use Rattle.door.specs.Answers.{numberOf}
 use Rattle.record.specs.Doors.{Shaped}
-use Rattle.record.specs.Kinds.{kindOf}
+use Rattle.door.specs.Kinds.{kindOf}
 use Rattle.record.specs.Sound.{Sound}
 use Rattle.record.specs.SoundTest.{soundB}
 use Rattle.record.specs.Steps.{soundStep, stepOf}

@@ -9,21 +9,24 @@ use native.Mathlib.Omega.{arith}
 use borrow.Author.Tests.{ltb-true, ltb-false, lt-ltb, le-ltb}
 use lib.ListN.{length, getD, List·getD-eq-default}
 use lib.Dec.{ltb, lit≤}
-use Rattle.rules.specs.Tables.{mayBe, orElse, andAlso}
-use Rattle.rules.specs.Below.{allBelow, Tells}
-use Rattle.rules.specs.Rules.{Lawful}
-use Rattle.rules.proofs.Answers.{lawful-tells}
-use Rattle.rules.proofs.Laws.{clash, denied as untrue, tell-lt, tell-le, tell-eq, tell-itself, tell-and, tell-all, tell-as}
-use Rattle.record.specs.declared.record.Door.{Door}
+use Rattle.tables.specs.Tables.{mayBe, orElse, andAlso}
+use Rattle.tables.specs.Below.{allBelow, Tells}
+use Rattle.tables.specs.Rules.{Lawful}
+use Rattle.tables.proofs.Answers.{lawful-tells}
+use Rattle.tables.proofs.Laws.{clash, denied as untrue, tell-lt, tell-le, tell-eq, tell-itself, tell-and, tell-all, tell-as}
+use Rattle.door.specs.declared.Door.{Door}
 use Rattle.record.specs.declared.record.Record.{Record}
-use Rattle.record.specs.Phase.{closed, keeps, grants, lit, leastCount, mostCount}
-use Rattle.record.specs.Doors.{doorOf, freeDoor, Shaped}
-use Rattle.record.specs.Grants.{GrantAt, hasGrant}
+use Rattle.door.specs.Phase.{closed, keeps, grants, lit, leastCount, mostCount}
+use Rattle.door.specs.Door.{freeDoor}
+use Rattle.record.specs.Doors.{doorOf, Shaped}
+use Rattle.sound.specs.Grants.{GrantAt, hasGrant}
 use Rattle.record.specs.Sound.{rightAt, ZeroBeyond, Sound}
-use Rattle.record.specs.SoundTest.{zeroAt, zeroFrom, rightFits, rightsFit, placeFits, placesFit, holderFits, fieldsFit, isFree, doorFits, doorsFit}
-use Rattle.record.specs.SoundTest.{grantFits, grantsFit, soleGrant, soleGrants, zeroBeyond, doorsSound, soundB}
-use Rattle.record.proofs.Cases.{below-or-not}
-use Rattle.record.proofs.Granting.{no-grant, none-found}
+use Rattle.sound.specs.SoundTest.{zeroAt, zeroFrom, rightFits, rightsFit, placeFits, placesFit, doorFits, doorsFit}
+use Rattle.door.specs.Fits.{holderFits, fieldsFit, isFree}
+use Rattle.sound.specs.SoundTest.{grantFits, grantsFit, soleGrant, soleGrants, zeroBeyond, doorsSound, listsSound}
+use Rattle.record.specs.SoundTest.{soundB}
+use Rattle.sound.proofs.Cases.{below-or-not}
+use Rattle.sound.proofs.Granting.{no-grant, none-found}
 
 -- ---- tests put together
 
@@ -76,10 +79,45 @@ tell-rights people locations right =
     (λ i. tell-when (getD right i false) (tell-and (tell-lt (i / 32) people) (tell-and (tell-lt 0 (i % 32)) (tell-lt (i % 32) locations))))
     (λ i h e. clash e (List·getD-eq-default right false h))
 
-abbrev PlaceOk : ℕ → List Bool → List ℕ → ℕ → Type 0
+-- the test of the tables' ends tells that they hold 0 beyond the counts
+module _ (people locations doors : ℕ) (origin destination exit : List ℕ) (right : List Bool) where
+  rights-end : ZeroBeyond people locations doors origin destination exit right → (i : ℕ) → RightOk people locations right i
+  rights-end z i e =
+      let e′ : rightAt right (i / 32) (i % 32) ≡ true = rw (div-add-mod' i 32) e in
+      let small : i % 32 < 32 = omega arith in (
+        ⊎-elim (λ h. h) (λ h. clash e′ (z .rights-of (i / 32) (i % 32) h small)) (below-or-not (i / 32) people),
+        (
+          ⊎-elim (λ h. h) (λ h. clash e′ (outside (i / 32) (i % 32) h)) (below-or-not 0 (i % 32)),
+          ⊎-elim (λ h. h) (λ h. clash e′ (z .rights-to (i / 32) (i % 32) h small)) (below-or-not (i % 32) locations),
+        ),
+      )
+    where
+      outside : (p l : ℕ) → l ≤ 0 → rightAt right p l ≡ false
+      outside p l h = let zero : l ≡ 0 = omega arith in rw zero (z .rights-to-outside p)
+
+  pub ends-tell : Tells (zeroBeyond people locations doors origin destination exit right) (ZeroBeyond people locations doors origin destination exit right)
+  unfolding zeroBeyond
+  ends-tell =
+      tell-as
+      (λ t. record {
+        origins = t .0;
+        destinations = t .1 .0;
+        exits = t .1 .1 .0;
+        rights-of = λ p l h k. untrue _ (λ e. let a = t .1 .1 .1 .1 (p * 32 + l) e in omega arith);
+        rights-to = λ p l h k. untrue _ (λ e. let a = t .1 .1 .1 .1 (p * 32 + l) e in omega arith);
+        exit-of-outside = t .1 .1 .1 .0;
+        rights-to-outside = λ p. untrue _ (λ e. let a = t .1 .1 .1 .1 (p * 32 + 0) e in omega arith);
+      })
+      (λ z. (z .origins, (z .destinations, (z .exits, (z .exit-of-outside, rights-end z)))))
+      (tell-and (tell-zero doors origin)
+      (tell-and (tell-zero doors destination)
+      (tell-and (tell-zero locations exit)
+      (tell-and (tell-eq (getD exit 0 0) 0) (tell-rights people locations right)))))
+
+abbrev pub PlaceOk : ℕ → List Bool → List ℕ → ℕ → Type 0
 PlaceOk people right place p = (p < people → mayBe right p (getD place p 0) ≡ true) × ((p < people → ⊥) → getD place p 0 ≡ 0)
 
-tell-places : (people : ℕ) (right : List Bool) (place : List ℕ) → Tells (placesFit people right place) ((p : ℕ) → PlaceOk people right place p)
+pub tell-places : (people : ℕ) (right : List Bool) (place : List ℕ) → Tells (placesFit people right place) ((p : ℕ) → PlaceOk people right place p)
 unfolding placesFit placeFits mayBe orElse
 tell-places people right place =
     tell-list (placeFits people right place) (PlaceOk people right place) (length place)
@@ -88,13 +126,13 @@ tell-places people right place =
 
 -- ---- the doors
 
-abbrev FieldsOk : ℕ → Door → Type 0
+abbrev pub FieldsOk : ℕ → Door → Type 0
 FieldsOk people c =
     (c .phase ≤ closed)
     × (((keeps (c .phase) ≡ true → c .holder < people) × ((keeps (c .phase) ≡ true → ⊥) → c .holder ≡ 0))
     × ((leastCount (c .phase) ≤ c .count) × (c .count ≤ mostCount (c .phase))))
 
-tell-fields : (people : ℕ) (c : Door) → Tells (fieldsFit people c) (FieldsOk people c)
+pub tell-fields : (people : ℕ) (c : Door) → Tells (fieldsFit people c) (FieldsOk people c)
 unfolding fieldsFit holderFits
 tell-fields people c =
     tell-and (tell-le (c .phase) closed)
@@ -141,16 +179,16 @@ tell-grants r =
     tell-all (grantFits (r .origin) (r .destination) (r .right) (r .place) (r .phase) (r .holder)) (GrantOk r) (r .doors)
     (λ d. tell-when (grants (getD (r .phase) d 0)) (tell-and (tell-eq _ (getD (r .origin) d 0)) (tell-itself _)))
 
-abbrev SoleOk : List ℕ → List ℕ → ℕ → Type 0
+abbrev pub SoleOk : List ℕ → List ℕ → ℕ → Type 0
 SoleOk phase holder d = grants (getD phase d 0) ≡ true → hasGrant d phase holder (getD holder d 0) ≡ false
 
-tell-sole : (doors : ℕ) (phase holder : List ℕ) → Tells (soleGrants doors phase holder) ((d : ℕ) → d < doors → SoleOk phase holder d)
+pub tell-sole : (doors : ℕ) (phase holder : List ℕ) → Tells (soleGrants doors phase holder) ((d : ℕ) → d < doors → SoleOk phase holder d)
 unfolding soleGrants soleGrant
 tell-sole doors phase holder =
     tell-all (soleGrant phase holder) (SoleOk phase holder) doors (λ d. tell-when (grants (getD phase d 0)) (tell-fails _))
 
 -- no two doors hold a grant of one person
-sole-alone : (doors : ℕ) (phase holder : List ℕ) → ((d : ℕ) → d < doors → SoleOk phase holder d) → (d : ℕ) → d < doors
+pub sole-alone : (doors : ℕ) (phase holder : List ℕ) → ((d : ℕ) → d < doors → SoleOk phase holder d) → (d : ℕ) → d < doors
     → grants (getD phase d 0) ≡ true → (e : ℕ) → (e ≡ d → ⊥) → GrantAt doors phase holder (getD holder d 0) e → ⊥
 sole-alone doors phase holder sole d h g e ne other =
     ⊎-elim
@@ -165,39 +203,20 @@ sole-alone doors phase holder sole d h g e ne other =
 -- what the tests tell, each
 record Parts (r : Record) : Type 0 where
   lawful : Lawful (r .people) (r .locations) (r .doors) (r .origin) (r .destination) (r .exit) (r .right)
-  origins : (d : ℕ) → r .doors ≤ d → getD (r .origin) d 0 ≡ 0
-  destinations : (d : ℕ) → r .doors ≤ d → getD (r .destination) d 0 ≡ 0
-  exits : (l : ℕ) → r .locations ≤ l → getD (r .exit) l 0 ≡ 0
-  outside : getD (r .exit) 0 0 ≡ 0
-  rights : (i : ℕ) → RightOk (r .people) (r .locations) (r .right) i
+  ends : ZeroBeyond (r .people) (r .locations) (r .doors) (r .origin) (r .destination) (r .exit) (r .right)
   places : (p : ℕ) → PlaceOk (r .people) (r .right) (r .place) p
   doors : (d : ℕ) → AtDoor r d
   grant : (d : ℕ) → d < r .doors → GrantOk r d
   sole : (d : ℕ) → d < r .doors → SoleOk (r .phase) (r .holder) d
 
 tell-parts : (r : Record) → Shaped r → Tells (soundB r) (Parts r)
-unfolding soundB zeroBeyond doorsSound
+unfolding soundB listsSound doorsSound
 tell-parts r sh =
     tell-as
-    (λ t. record {
-      lawful = t .0;
-      origins = t .1 .0 .0;
-      destinations = t .1 .0 .1 .0;
-      exits = t .1 .0 .1 .1 .0;
-      outside = t .1 .0 .1 .1 .1 .0;
-      rights = t .1 .0 .1 .1 .1 .1;
-      places = t .1 .1 .0;
-      doors = t .1 .1 .1 .0;
-      grant = t .1 .1 .1 .1 .0;
-      sole = t .1 .1 .1 .1 .1;
-    })
-    (λ p. (p .lawful, ((p .origins, (p .destinations, (p .exits, (p .outside, p .rights)))), (p .places, (p .doors, (p .grant, p .sole))))))
+    (λ t. record { lawful = t .0; ends = t .1 .0; places = t .1 .1 .0; doors = t .1 .1 .1 .0; grant = t .1 .1 .1 .1 .0; sole = t .1 .1 .1 .1 .1 })
+    (λ p. (p .lawful, (p .ends, (p .places, (p .doors, (p .grant, p .sole))))))
     (tell-and (lawful-tells (r .people) (r .locations) (r .doors) (r .origin) (r .destination) (r .exit) (r .right))
-    (tell-and
-    (tell-and (tell-zero (r .doors) (r .origin))
-    (tell-and (tell-zero (r .doors) (r .destination))
-    (tell-and (tell-zero (r .locations) (r .exit))
-    (tell-and (tell-eq (getD (r .exit) 0 0) 0) (tell-rights (r .people) (r .locations) (r .right))))))
+    (tell-and (ends-tell (r .people) (r .locations) (r .doors) (r .origin) (r .destination) (r .exit) (r .right))
     (tell-and (tell-places (r .people) (r .right) (r .place))
     (tell-and (tell-doors r sh) (tell-and (tell-grants r) (tell-sole (r .doors) (r .phase) (r .holder)))))))
 
@@ -205,15 +224,7 @@ parts-sound : (r : Record) → Parts r → Sound r
 parts-sound r t =
     record {
       tables = t .lawful;
-      zero-tables = record {
-        origins = t .origins;
-        destinations = t .destinations;
-        exits = t .exits;
-        rights-of = λ p l h k. untrue _ (λ e. let a = t .rights (p * 32 + l) e in omega arith);
-        rights-to = λ p l h k. untrue _ (λ e. let a = t .rights (p * 32 + l) e in omega arith);
-        exit-of-outside = t .outside;
-        rights-to-outside = λ p. untrue _ (λ e. let a = t .rights (p * 32 + 0) e in omega arith);
-      };
+      zero-tables = t .ends;
       zero-places = λ p h. t .places p .1 (λ k. omega arith);
       zero-doors = λ d h. t .doors d .1 (λ k. omega arith);
       placed = λ p h. t .places p .0 h;
@@ -238,36 +249,15 @@ sound-parts : (r : Record) → Sound r → Parts r
 sound-parts r s =
     record {
       lawful = s .tables;
-      origins = z .origins;
-      destinations = z .destinations;
-      exits = z .exits;
-      outside = z .exit-of-outside;
-      rights = rights;
+      ends = s .zero-tables;
       places = λ p. (s .placed p, λ k. s .zero-places p (at-least k));
       doors = λ d. (fields d, λ k. s .zero-doors d (at-least k));
       grant = λ d h g. (s .doors d h .starts g, s .doors d h .may g);
       sole = sole;
     }
   where
-    z : ZeroBeyond (r .people) (r .locations) (r .doors) (r .origin) (r .destination) (r .exit) (r .right)
-    z = s .zero-tables
-
     fields : (d : ℕ) → d < r .doors → FieldsOk (r .people) (doorOf r d)
     fields d h = let o = s .doors d h in (o .known, ((o .held, λ k. o .nobody (untrue _ k)), (o .least, o .most)))
-
-    outside : (p l : ℕ) → l ≤ 0 → rightAt (r .right) p l ≡ false
-    outside p l h = let zero : l ≡ 0 = omega arith in rw zero (z .rights-to-outside p)
-
-    rights : (i : ℕ) → RightOk (r .people) (r .locations) (r .right) i
-    rights i e =
-        let e′ : rightAt (r .right) (i / 32) (i % 32) ≡ true = rw (div-add-mod' i 32) e in
-        let small : i % 32 < 32 = omega arith in (
-          ⊎-elim (λ h. h) (λ h. clash e′ (z .rights-of (i / 32) (i % 32) h small)) (below-or-not (i / 32) (r .people)),
-          (
-            ⊎-elim (λ h. h) (λ h. clash e′ (outside (i / 32) (i % 32) h)) (below-or-not 0 (i % 32)),
-            ⊎-elim (λ h. h) (λ h. clash e′ (z .rights-to (i / 32) (i % 32) h small)) (below-or-not (i % 32) (r .locations)),
-          ),
-        )
 
     sole : (d : ℕ) → d < r .doors → SoleOk (r .phase) (r .holder) d
     sole d h g =

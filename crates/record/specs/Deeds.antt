@@ -5,18 +5,18 @@ use mathlib.Core.Path.{_≡_}
 use mathlib.Core.Bool.{Bool}
 use mathlib.Core.List.{List}
 use lib.ListN.{getD}
-use Rattle.rules.specs.Tables.{mostPeople}
+use Rattle.tables.specs.Tables.{mostPeople}
 use Rattle.record.specs.declared.record.Record.{Record}
-use Rattle.record.specs.declared.table.Kind.{Kind}
-use Rattle.record.specs.declared.table.Kind.the-variants.{Decide}
-use Rattle.record.specs.declared.steps.Answer.the-variants.{Done}
+use Rattle.door.specs.declared.table.Kind.{Kind}
+use Rattle.door.specs.declared.answer.Answer.the-variants.{Done}
 use Rattle.record.specs.declared.steps.Step.{Step}
 use Rattle.record.specs.declared.steps.Told.{Told}
 use Rattle.record.specs.declared.steps.Deed.{Deed}
-use Rattle.record.specs.declared.steps.Deed.the-variants.{Stays, Turns, Moves}
-use Rattle.record.specs.Phase.{closed}
+use Rattle.record.specs.declared.steps.Deed.the-variants.{Tells, Puts, Leads}
+use Rattle.door.specs.Phase.{closed}
 use Rattle.record.specs.Doors.{putDoor, putAt}
-use Rattle.record.specs.Steps.{reasonFor, turns, act, refused, soundStep}
+use Rattle.door.specs.declared.does.Does.the-variants.{Turns}
+use Rattle.record.specs.Steps.{act, refused, soundStep}
 
 -- the record of these counts, tables and lists
 abbrev pub recordOf : ℕ → ℕ → ℕ → List ℕ → List ℕ → List ℕ → List Bool → List ℕ → List ℕ → List ℕ → List ℕ → Record
@@ -45,15 +45,9 @@ telling r told = record { next = r; answer = told .answer; phase = told .phase; 
 
 -- a deed at door d, carried out on a record
 abbrev pub carried : Record → ℕ → Deed → Step
-carried r d (Stays answer phase) = refused r answer phase
-carried r d (Turns c why) = act r d (turns c why)
-carried r d (Moves c p l) = record { next = putAt (putDoor r d c) p l; answer = Done; phase = c .phase; reason = 0 }
-
--- the reason that `decide` asks for
-abbrev pub Asked : Kind → ℕ → List ℕ → List ℕ → List Bool → List ℕ → List ℕ → List ℕ → ℕ → ℕ → ℕ → Type 0
-Asked k doors origin destination right place phase holder d p why =
-    (people locations : ℕ) (exit count : List ℕ)
-    → k ≡ Decide → why ≡ reasonFor (recordOf people locations doors origin destination exit right place phase holder count) d p
+carried r d (Tells answer phase) = refused r answer phase
+carried r d (Puts c why) = act r d (Turns c why)
+carried r d (Leads c p l) = record { next = putAt (putDoor r d c) p l; answer = Done; phase = c .phase; reason = 0 }
 
 -- what a step asks of the lists: there is room for the people, and every phase is one of the ten
 pub record Known (people : ℕ) (phase : List ℕ) : Type 0 where

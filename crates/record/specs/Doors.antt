@@ -3,24 +3,13 @@ use Prim.Native.Nat.{ℕ, _*_}
 use mathlib.Core.Path.{_≡_}
 use mathlib.Core.Bool.{Bool}
 use mathlib.Core.List.{List}
-use lib.ListN.{length, getD, set, replicate}
-use Rattle.rules.specs.Tables.{mostPeople, mostLocations, mostDoors}
-use Rattle.record.specs.declared.record.Door.{Door}
+use lib.ListN.{length, set, replicate}
+use Rattle.tables.specs.Tables.{mostPeople, mostLocations, mostDoors}
+use Rattle.door.specs.declared.Door.{Door}
 use Rattle.record.specs.declared.record.Record.{Record}
-use Rattle.record.specs.Phase.{free}
-
--- a door in this phase, with this person and this countdown
-abbrev pub door : ℕ → ℕ → ℕ → Door
-door phase holder count = record { phase = phase; holder = holder; count = count }
-
--- "0 free": person 0, countdown 0
-abbrev pub freeDoor : Door
-freeDoor = door free 0 0
+use Rattle.door.specs.Door.{doorIn}
 
 -- "for each door a phase, a person and a countdown"
-abbrev pub doorIn : List ℕ → List ℕ → List ℕ → ℕ → Door
-doorIn phase holder count d = door (getD phase d 0) (getD holder d 0) (getD count d 0)
-
 abbrev pub doorOf : Record → ℕ → Door
 doorOf r d = doorIn (r .phase) (r .holder) (r .count) d
 

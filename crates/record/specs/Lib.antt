@@ -1,10 +1,5 @@
 -- The record, its soundness, its steps and its questions, as paper 01 writes them.
-pub mod Phase
 pub mod Doors
-pub mod Kinds
-pub mod Table
-pub mod Answers
-pub mod Grants
 pub mod Sound
 pub mod SoundTest
 pub mod Steps

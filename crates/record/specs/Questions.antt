@@ -4,11 +4,11 @@ use mathlib.Core.Bool.{cond}
 use mathlib.Core.List.{List}
 use lib.ListN.{getD}
 use lib.Dec.{ltb}
-use Rattle.rules.specs.Way.{wayOf, told, written}
-use Rattle.rules.specs.declared.Found.{Found}
-use Rattle.rules.specs.declared.Found.the-variants as found
-use Rattle.rules.specs.declared.WayTold.{WayTold}
-use Rattle.rules.specs.declared.WayTold.the-variants as way
+use Rattle.tables.specs.Way.{wayOf, told, written}
+use Rattle.tables.specs.declared.Found.{Found}
+use Rattle.tables.specs.declared.Found.the-variants as found
+use Rattle.tables.specs.declared.WayTold.{WayTold}
+use Rattle.tables.specs.declared.WayTold.the-variants as way
 use Rattle.record.specs.declared.record.Record.{Record}
 use Rattle.record.specs.declared.questions.PlaceAnswer.{PlaceAnswer}
 use Rattle.record.specs.declared.questions.PlaceAnswer.the-variants as place
@@ -16,7 +16,7 @@ use Rattle.record.specs.declared.questions.GrantAnswer.{GrantAnswer}
 use Rattle.record.specs.declared.questions.GrantAnswer.the-variants as grant
 use Rattle.record.specs.declared.questions.WayAnswer.{WayAnswer}
 use Rattle.record.specs.declared.questions.WayAnswer.the-variants as answer
-use Rattle.record.specs.Grants.{grantOf}
+use Rattle.sound.specs.Grants.{grantOf}
 use Rattle.record.specs.SoundTest.{soundB}
 
 -- "where is a person"

@@ -5,14 +5,14 @@ use mathlib.Core.List.{List, [], _∷_}
 use lib.ListN.{length}
 use lib.Seq.{sets}
 use lib.Dec.{leb}
-use Rattle.rules.specs.Tables.{andAlso}
+use Rattle.tables.specs.Tables.{andAlso}
 use Rattle.record.specs.declared.record.Record.{Record}
-use Rattle.record.specs.declared.table.Kind.{Kind}
+use Rattle.door.specs.declared.table.Kind.{Kind}
 use Rattle.record.specs.declared.steps.Step.{Step}
-use Rattle.record.specs.declared.steps.Answer.the-variants.{Done, TooShort, Unsound}
+use Rattle.door.specs.declared.answer.Answer.the-variants.{Done, TooShort, Unsound}
 use Rattle.record.specs.declared.series.Ran.{Ran}
-use Rattle.record.specs.Answers.{numberOf}
-use Rattle.record.specs.Kinds.{kindOf}
+use Rattle.door.specs.Answers.{numberOf}
+use Rattle.door.specs.Kinds.{kindOf}
 use Rattle.record.specs.SoundTest.{soundB}
 use Rattle.record.specs.Steps.{stepOf}
 

@@ -4,13 +4,14 @@ use mathlib.Core.Path.{_≡_}
 use mathlib.Core.Bool.{Bool, true, false}
 use mathlib.Core.List.{List}
 use lib.ListN.{getD}
-use Rattle.rules.specs.Tables.{mayBe, mostLocations}
-use Rattle.rules.specs.Rules.{Lawful}
-use Rattle.record.specs.declared.record.Door.{Door}
+use Rattle.tables.specs.Tables.{mayBe, mostLocations}
+use Rattle.tables.specs.Rules.{Lawful}
+use Rattle.door.specs.declared.Door.{Door}
 use Rattle.record.specs.declared.record.Record.{Record}
-use Rattle.record.specs.Phase.{closed, keeps, grants, leastCount, mostCount}
-use Rattle.record.specs.Doors.{doorOf, freeDoor}
-use Rattle.record.specs.Grants.{GrantAt}
+use Rattle.door.specs.Phase.{closed, keeps, grants, leastCount, mostCount}
+use Rattle.door.specs.Door.{freeDoor}
+use Rattle.record.specs.Doors.{doorOf}
+use Rattle.sound.specs.Grants.{GrantAt}
 
 -- the entry of the rights' table for person p and location l
 abbrev pub rightAt : List Bool → ℕ → ℕ → Bool

@@ -2,11 +2,11 @@
 // location. Each answers 14, then 11, then 13.
 ghost use mathlib.Core.Path.{_≡_};
 ghost use Rattle.record.specs.Questions.{placeOf, grantFound, grantedTo, wayFound, wayAnswerOf, wayWritten};
-use crate::grants::grant_of;
-use crate::lists::byte_at;
 use crate::record::Record;
-use rules::Found;
-use rules::WayTold;
+use sound::grants::grant_of;
+use tables::Found;
+use tables::WayTold;
+use tables::lists::byte_at;
 
 // Where a person is.
 pub enum PlaceAnswer {

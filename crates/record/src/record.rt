@@ -1,11 +1,11 @@
 // The record: the tables of a site, where each person is, and the phase, the person and the
-// countdown of each door.
+// countdown of each door; and whether it is sound.
 ghost use mathlib.Core.Path.{_≡_};
-ghost use Rattle.record.specs.Doors.{door, freeDoor, doorIn, freshRecord};
+ghost use Rattle.record.specs.Doors.{freshRecord};
+ghost use Rattle.record.specs.SoundTest.{soundB};
 ghost use Rattle.record.specs.Deeds.{holding};
-use crate::lists::byte_at;
-use crate::lists::word_at;
-use crate::phase::Phase;
+use door::Door;
+use sound::lists::lists_sound;
 
 // The most people, locations and doors that a record has room for, and the rights of them all.
 pub const MOST_PEOPLE: usize = 64;
@@ -15,49 +15,6 @@ pub const MOST_LOCATIONS: usize = 32;
 pub const MOST_DOORS: usize = 64;
 
 pub const MOST_RIGHTS: usize = 2048;
-
-// What the record keeps of one door.
-pub struct Door {
-    pub phase: u8,
-    pub holder: u16,
-    pub count: u16,
-}
-
-impl Door {
-    // A door in this phase, with this person and this countdown.
-    pub(crate) fn new(phase: u8, holder: u16, count: u16) -> Self
-        ensures { λ r. ⌜ r ≡ door phase holder count ⌝ }
-    {
-        Door {
-            phase,
-            holder,
-            count,
-        }
-    }
-
-    // What these lists keep of a door.
-    pub(crate) fn among<'a>(
-        phase: &'a [u8],
-        holder: &'a [u16],
-        count: &'a [u16],
-        door: usize,
-    ) -> Self
-        ensures { λ r. ⌜ r ≡ doorIn (now (phase .entry)) (now (holder .entry)) (now (count .entry)) door ⌝ }
-    {
-        Door::new(
-            byte_at(phase, door),
-            word_at(holder, door),
-            word_at(count, door),
-        )
-    }
-
-    // A door at which nobody has shown a card.
-    pub fn free() -> Self
-        ensures { λ r. ⌜ r ≡ freeDoor ⌝ }
-    {
-        Door::new(Phase::FREE, 0, 0)
-    }
-}
 
 // The tables: the counts, each door's origin and destination, each location's exit, and the rights,
 // 32 to a person. Beside them: the location of each person, and for each door its phase, the person
@@ -124,5 +81,24 @@ impl Record {
         self.holder = holder;
         self.count = count;
         self
+    }
+
+    // Is this record sound?
+    pub fn is_sound(self) -> bool
+        ensures { λ r. ⌜ r ≡ soundB self ⌝ }
+    {
+        lists_sound(
+            self.people,
+            self.locations,
+            self.doors,
+            &self.origin,
+            &self.destination,
+            &self.exit,
+            &self.right,
+            &self.place,
+            &self.phase,
+            &self.holder,
+            &self.count,
+        )
     }
 }

@@ -7,12 +7,12 @@ ghost use lib.Seq.{sets};
 ghost use Rattle.record.specs.Sound.{Sound};
 ghost use Rattle.record.specs.Run.{rowsOf, lastOf, toldOf, answerTold, phaseTold, reasonTold};
 ghost use Rattle.record.specs.Run.{roomFor, runOf, answersOf, phasesOf, reasonsOf};
-use crate::lists::word_at;
 use crate::record::Record;
-use crate::steps::Answer;
 use crate::steps::carry_out;
 use crate::steps::judge;
-use crate::table::Kind;
+use door::answer::Answer;
+use door::table::Kind;
+use tables::lists::word_at;
 
 // What a run hands back: the last record, and how the run as a whole ended.
 pub struct Ran {

@@ -2,62 +2,24 @@
 // door's phase afterwards and the reason.
 ghost use mathlib.Core.Path.{_≡_};
 ghost use Prim.Native.Nat.{ℕ, _<_};
-ghost use mathlib.Core.Bool.{true};
 ghost use lib.ListN.{getD, set};
-ghost use Rattle.rules.specs.Tables.{mostPeople};
-ghost use Rattle.record.specs.Answers.{numberOf};
-ghost use Rattle.record.specs.Doors.{doorOf};
-ghost use Rattle.record.specs.Kinds.{kindOf, namesPerson};
-ghost use Rattle.record.specs.Steps.{exist, refused, burns, effect, act, stepOf};
-ghost use Rattle.record.specs.Deeds.{holding, telling, carried, Asked, Known, Judged};
-use crate::grants::has_grant;
-use crate::lists::byte_at;
-use crate::lists::put_byte;
-use crate::lists::put_word;
-use crate::phase::Phase;
-use crate::phase::Span;
-use crate::record::Door;
+ghost use Rattle.tables.specs.Tables.{mostPeople};
+ghost use Rattle.door.specs.Kinds.{kindOf};
+ghost use Rattle.sound.specs.Reasons.{firstReason};
+ghost use Rattle.record.specs.Steps.{exist, refused, act, stepOf};
+ghost use Rattle.record.specs.Deeds.{holding, telling, carried, Known, Judged};
 use crate::record::MOST_DOORS;
 use crate::record::MOST_PEOPLE;
 use crate::record::Record;
-use crate::table::Kind;
-
-// How a step, a run or a question ends.
-pub enum Answer {
-    Done,
-    NoSuch,
-    NotAllowed,
-    TooShort,
-    Unsound,
-}
-
-impl Answer {
-    // The paper's number of this answer.
-    pub fn number(self) -> u8
-        ensures { λ r. ⌜ r ≡ numberOf self ⌝ }
-    {
-        match self {
-            Answer::Done => 0,
-            Answer::NoSuch => 11,
-            Answer::NotAllowed => 12,
-            Answer::TooShort => 13,
-            Answer::Unsound => 14,
-        }
-    }
-}
-
-// Why a card was denied.
-pub struct Reason;
-
-impl Reason {
-    pub const NONE: u8 = 0;
-
-    pub const NOT_THERE: u8 = 1;
-
-    pub const NO_RIGHT: u8 = 2;
-
-    pub const HAS_GRANT: u8 = 3;
-}
+use door::Door;
+use door::answer::Answer;
+use door::answer::Reason;
+use door::does::Does;
+use door::table::Kind;
+use sound::grants::first_reason;
+use tables::lists::byte_at;
+use tables::lists::put_byte;
+use tables::lists::put_word;
 
 // The phase that is told where there is no door to tell it of.
 const UNTOLD: u8 = 0;
@@ -78,15 +40,15 @@ pub struct Told {
     pub reason: u8,
 }
 
-// What a step does: nothing, with the answer and the phase that it tells; its door becomes so, with
-// the reason that it tells; or its door becomes so, and this person is in this location.
+// What is done at a door: nothing, with the answer and the phase that are told; the door becomes so,
+// with the reason that is told; or the door becomes so, and this person is in this location.
 pub(crate) enum Deed {
-    Stays(Answer, u8),
-    Turns(Door, u8),
-    Moves(Door, usize, u8),
+    Tells(Answer, u8),
+    Puts(Door, u8),
+    Leads(Door, usize, u8),
 }
 
-// The first reason to deny this person this door, which only `decide` asks for.
+// The reason to deny this person this door, which only `decide` asks for.
 fn reason_for<'a>(
     kind: Kind,
     doors: usize,
@@ -99,76 +61,43 @@ fn reason_for<'a>(
     door: usize,
     person: usize,
 ) -> u8
-    ensures { λ r. ⌜ Asked kind doors (now (origin .entry)) (now (destination .entry)) (now (right .entry)) (now (place .entry)) (now (phase .entry)) (now (holder .entry)) door person r ⌝ }
+    ensures { λ r. ⌜ (kind ≡ Kind.Decide → r ≡ firstReason doors (now (origin .entry)) (now (destination .entry)) (now (right .entry)) (now (place .entry)) (now (phase .entry)) (now (holder .entry)) door person) ⌝ }
 {
     let Kind::Decide = kind else {
         return Reason::NONE;
     };
-    if byte_at(place, person) != byte_at(origin, door) {
-        return Reason::NOT_THERE;
-    }
-    if !rules::may_be(right, person, byte_at(destination, door) as usize) {
-        return Reason::NO_RIGHT;
-    }
-    if has_grant(doors, phase, holder, person) {
-        return Reason::HAS_GRANT;
-    }
-    Reason::NONE
+    first_reason(
+        doors,
+        origin,
+        destination,
+        right,
+        place,
+        phase,
+        holder,
+        door,
+        person,
+    )
 }
 
-// `decide`: granted, or denied with the first reason that applies.
-fn decided(now: Door, why: u8) -> Deed
-    ensures { λ r. ⌜ ((t : Record) (d : ℕ) → carried t d r ≡ act t d (effect Kind.Decide 0 why now)) ⌝ }
+// The person of a card, who exists.
+fn person_named(kind: Kind, person: usize) -> u16
+    requires { ⌜ (kind ≡ Kind.Card → person < mostPeople) ⌝ }
+    ensures { λ r. ⌜ (kind ≡ Kind.Card → r ≡ person) ⌝ }
 {
-    if why == Reason::NONE {
-        return Deed::Turns(Door::new(Phase::GRANTED, now.holder, 0), Reason::NONE);
-    }
-    Deed::Turns(Door::new(Phase::DENIED, 0, 0), why)
+    let Kind::Card = kind else {
+        return 0;
+    };
+    person as u16
 }
 
-// A tick of a light that burns: its countdown falls, and on reaching 0 the phase becomes `out`.
-fn burnt(now: Door, out: u8) -> Deed
-    ensures { λ r. ⌜ ((t : Record) (d : ℕ) → carried t d r ≡ act t d (burns now out)) ⌝ }
+// The deed that a step does at a door that is in this phase, holds this person and leads to this location.
+fn deed_of(does: Does, phase: u8, held: usize, to: u8) -> Deed
+    ensures { λ r. ⌜ ((t : Record) (d : ℕ) → getD (t .phase) d 0 ≡ phase → getD (t .holder) d 0 ≡ held → getD (t .destination) d 0 ≡ to → carried t d r ≡ act t d does) ⌝ }
 {
-    let holder = now.holder;
-    let count = now.count;
-    if 1 < count {
-        return Deed::Turns(Door::new(now.phase, holder, count - 1), Reason::NONE);
-    }
-    Deed::Turns(Door::new(out, holder, 0), Reason::NONE)
-}
-
-// `tick`: a light burns down, and all else stays as it is.
-fn ticked(now: Door) -> Deed
-    ensures { λ r. ⌜ ((t : Record) (d : ℕ) → doorOf t d ≡ now → carried t d r ≡ act t d (effect Kind.Tick 0 0 now)) ⌝ }
-{
-    let phase = now.phase;
-    match phase {
-        Phase::GREEN => burnt(now, Phase::EXPIRED),
-        Phase::RED => burnt(now, Phase::DIMMED),
-        _ => Deed::Stays(Answer::Done, phase),
-    }
-}
-
-// What a step that may be done does at a door that is so now and leads to this location; `why` is
-// the reason to deny.
-fn done(kind: Kind, person: usize, why: u8, now: Door, to: u8) -> Deed
-    requires { ⌜ (namesPerson kind ≡ true → person < mostPeople) ⌝ }
-    ensures { λ r. ⌜ ((t : Record) (d : ℕ) → doorOf t d ≡ now → getD (t .destination) d 0 ≡ to → carried t d r ≡ act t d (effect kind person why now)) ⌝ }
-{
-    let holder = now.holder;
-    match kind {
-        Kind::Card => Deed::Turns(Door::new(Phase::READ, person as u16, 0), Reason::NONE),
-        Kind::Decide => decided(now, why),
-        Kind::Green => Deed::Turns(Door::new(Phase::GREEN, holder, Span::GREEN), Reason::NONE),
-        Kind::Red => Deed::Turns(Door::new(Phase::RED, holder, Span::RED), Reason::NONE),
-        Kind::Walk => Deed::Turns(Door::new(Phase::WALKED, holder, 0), Reason::NONE),
-        Kind::Tick => ticked(now),
-        Kind::Passed => Deed::Moves(Door::new(Phase::CLOSED, 0, 0), holder as usize, to),
-        Kind::Lapsed => Deed::Turns(Door::new(Phase::CLOSED, 0, 0), Reason::NONE),
-        Kind::Dark => Deed::Turns(Door::new(Phase::CLOSED, holder, 0), Reason::NONE),
-        Kind::Ack => Deed::Turns(Door::free(), Reason::NONE),
-        Kind::Unknown => Deed::Stays(Answer::Done, now.phase),
+    match does {
+        Does::Stays => Deed::Tells(Answer::Done, phase),
+        Does::Turns(so, reason) => Deed::Puts(so, reason),
+        Does::Moves(so) => Deed::Leads(so, held, to),
     }
 }
 
@@ -179,9 +108,9 @@ fn exist(people: usize, doors: usize, kind: Kind, door: usize, person: usize) ->
     if doors <= door {
         return false;
     }
-    if !kind.names_person() {
+    let Kind::Card = kind else {
         return true;
-    }
+    };
     person < people
 }
 
@@ -204,11 +133,11 @@ pub(crate) fn judge<'a>(
     ensures { λ r. ⌜ Judged people doors (now (origin .entry)) (now (destination .entry)) (now (right .entry)) (now (place .entry)) (now (phase .entry)) (now (holder .entry)) (now (count .entry)) kind door person r ⌝ }
 {
     if !exist(people, doors, kind, door, person) {
-        return Deed::Stays(Answer::NoSuch, UNTOLD);
+        return Deed::Tells(Answer::NoSuch, UNTOLD);
     }
     let now = Door::among(phase, holder, count, door);
     if !kind.allowed_in(now.phase) {
-        return Deed::Stays(Answer::NotAllowed, now.phase);
+        return Deed::Tells(Answer::NotAllowed, now.phase);
     }
     let held = now.holder as usize;
     let why = reason_for(
@@ -223,7 +152,8 @@ pub(crate) fn judge<'a>(
         door,
         held,
     );
-    done(kind, person, why, now, byte_at(destination, door))
+    let does = now.does(kind, person_named(kind, person), why);
+    deed_of(does, now.phase, held, byte_at(destination, door))
 }
 
 // The lists with this door so.
@@ -255,14 +185,14 @@ pub(crate) fn carry_out<'a>(
     ensures { λ r. ⌜ ((t : Record) → telling (holding t (now (place .exit)) (now (phase .exit)) (now (holder .exit)) (now (count .exit))) r ≡ carried (holding t (now (place .entry)) (now (phase .entry)) (now (holder .entry)) (now (count .entry))) door deed) ⌝ }
 {
     match deed {
-        Deed::Stays(answer, so) => {
+        Deed::Tells(answer, so) => {
             Told {
                 answer,
                 phase: so,
                 reason: Reason::NONE,
             }
         }
-        Deed::Turns(so, reason) => {
+        Deed::Puts(so, reason) => {
             put_door(door, so, phase, holder, count);
             Told {
                 answer: Answer::Done,
@@ -270,7 +200,7 @@ pub(crate) fn carry_out<'a>(
                 reason,
             }
         }
-        Deed::Moves(so, person, to) => {
+        Deed::Leads(so, person, to) => {
             put_byte(place, person, to);
             put_door(door, so, phase, holder, count);
             Told {

@@ -4,8 +4,8 @@ use files::ROOM;
 use files::number_asked;
 use files::read_sheet;
 use libc::STDOUT_FILENO;
+use printed::text::Printed;
 use run::text::MOST_PANEL_TEXT;
-use run::text::Printed;
 use run::text::panel_text;
 
 // The same text again and again into the same list; the last one's length, 0 for no round.

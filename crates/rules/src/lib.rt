@@ -1,4 +1,4 @@
-// The tables of a site, its rules, and the way out of a location.
+// The rules of a site's tables, and the way out of a location.
 //
 // The tables are lent, never copied: `origin` and `destination` have an entry for each door, `exit`
 // one for each location, `right` 32 for each person. Past the end of a table an entry is 0, and a
@@ -7,30 +7,16 @@ ghost use mathlib.Core.Path.{_≡_};
 ghost use Prim.Native.Nat.{ℕ, _+_, _≤_};
 ghost use lib.ListN.{length, getD};
 ghost use lib.Seq.{sets};
-ghost use Rattle.rules.specs.Tables.{mayBe};
-ghost use Rattle.rules.specs.Below.{allBelow, someBelow, leastBelow, isNothing, noPair};
-ghost use Rattle.rules.specs.Way.{unvisited, wayOut, wayOf, told, written};
-ghost use Rattle.rules.specs.Tests.{doorFits, exitFits, countsFit, inRange, lacksExit, firstNoExit};
-ghost use Rattle.rules.specs.Tests.{strays, firstStray, joins, lacksDoor, firstNoDoor};
-ghost use Rattle.rules.specs.Tests.{lacksRight, firstNoRight, letsIn, shutOut, firstShutOut, lawfulB};
-
-// What a search over a table finds: the smallest offender, or none.
-pub enum Found {
-    At(usize),
-    Nothing,
-}
-
-// What the search over people and locations finds: the smallest person, then the location; or none.
-pub enum RightFound {
-    At { person: usize, location: usize },
-    Nothing,
-}
-
-// What is told of a way out: its length, or that the list lent for it is shorter (number 13).
-pub enum WayTold {
-    Length(usize),
-    TooShort,
-}
+ghost use Rattle.tables.specs.Tables.{mayBe};
+ghost use Rattle.tables.specs.Below.{allBelow, someBelow, leastBelow, isNothing, noPair};
+ghost use Rattle.tables.specs.Way.{unvisited, wayOut, wayOf, told, written};
+ghost use Rattle.tables.specs.Tests.{doorFits, exitFits, countsFit, inRange, lacksExit, firstNoExit};
+ghost use Rattle.tables.specs.Tests.{strays, firstStray, joins, lacksDoor, firstNoDoor};
+ghost use Rattle.tables.specs.Tests.{lacksRight, firstNoRight, letsIn, shutOut, firstShutOut, lawfulB};
+use tables::Found;
+use tables::RightFound;
+use tables::WayTold;
+use tables::lists::byte_at;
 
 // The most people, locations and doors that a site has.
 const MOST_PEOPLE: usize = 64;
@@ -38,16 +24,6 @@ const MOST_PEOPLE: usize = 64;
 const MOST_LOCATIONS: usize = 32;
 
 const MOST_DOORS: usize = 64;
-
-// The entry of a table, and 0 past its end.
-fn entry(table: &[u8], at: usize) -> u8
-    ensures { λ r. ⌜ r ≡ getD (now (table .entry)) at 0 ⌝ }
-{
-    if at < table.len() {
-        return table[at];
-    }
-    0
-}
 
 // Whether a person may be in a location.
 pub fn may_be(right: &[bool], person: usize, location: usize) -> bool
@@ -73,8 +49,8 @@ pub fn may_be(right: &[bool], person: usize, location: usize) -> bool
 fn door_fits<'a>(locations: usize, origin: &'a [u8], destination: &'a [u8], door: usize) -> bool
     ensures { λ r. ⌜ r ≡ doorFits locations (now (origin .entry)) (now (destination .entry)) door ⌝ }
 {
-    let from = entry(origin, door);
-    let to = entry(destination, door);
+    let from = byte_at(origin, door);
+    let to = byte_at(destination, door);
     if locations <= from as usize {
         return false;
     }
@@ -102,7 +78,7 @@ fn doors_fit<'a>(locations: usize, doors: usize, origin: &'a [u8], destination: 
 fn exit_fits(locations: usize, exit: &[u8], location: usize) -> bool
     ensures { λ r. ⌜ r ≡ exitFits locations (now (exit .entry)) location ⌝ }
 {
-    (entry(exit, location) as usize) < locations
+    (byte_at(exit, location) as usize) < locations
 }
 
 // Rule 3: whether every exit fits.
@@ -209,7 +185,7 @@ fn way_length(left: usize, exit: &[u8], from: usize) -> usize
     if from == 0 {
         return 0;
     }
-    way_length(left - 1, exit, entry(exit, from) as usize) + 1
+    way_length(left - 1, exit, byte_at(exit, from) as usize) + 1
 }
 
 // Writes the way out of a location into a list, from a place on.
@@ -223,7 +199,7 @@ fn write_way<'a>(left: usize, exit: &'a [u8], from: usize, list: &'a mut [u8], a
     if from == 0 {
         return;
     }
-    let next = entry(exit, from);
+    let next = byte_at(exit, from);
     list[at] = next;
     write_way(left - 1, exit, next as usize, list, at + 1);
 }
@@ -270,11 +246,11 @@ pub fn first_stray(locations: usize, exit: &[u8]) -> Found
 fn joins<'a>(origin: &'a [u8], destination: &'a [u8], from: usize, to: usize, door: usize) -> bool
     ensures { λ r. ⌜ r ≡ joins (now (origin .entry)) (now (destination .entry)) from to door ⌝ }
 {
-    let start = entry(origin, door) as usize;
+    let start = byte_at(origin, door) as usize;
     if start != from {
         return false;
     }
-    let end = entry(destination, door) as usize;
+    let end = byte_at(destination, door) as usize;
     end == to
 }
 
@@ -305,7 +281,7 @@ fn lacks_door<'a>(
     if location == 0 {
         return false;
     }
-    let to = entry(exit, location) as usize;
+    let to = byte_at(exit, location) as usize;
     !joined(doors, origin, destination, location, to)
 }
 
@@ -339,7 +315,7 @@ fn lacks_right<'a>(exit: &'a [u8], right: &'a [bool], person: usize, location: u
     if !may_be(right, person, location) {
         return false;
     }
-    let to = entry(exit, location) as usize;
+    let to = byte_at(exit, location) as usize;
     !may_be(right, person, to)
 }
 
@@ -413,11 +389,11 @@ fn lets_in<'a>(
 ) -> bool
     ensures { λ r. ⌜ r ≡ letsIn (now (origin .entry)) (now (destination .entry)) (now (right .entry)) person door ⌝ }
 {
-    let start = entry(origin, door);
+    let start = byte_at(origin, door);
     if start != 0 {
         return false;
     }
-    let to = entry(destination, door) as usize;
+    let to = byte_at(destination, door) as usize;
     may_be(right, person, to)
 }
 

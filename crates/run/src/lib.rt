@@ -4,6 +4,6 @@
 // of the site; `print` writes numbers as text, and `text` puts the two texts together. The definitions are in specs/, in
 // the words of paper 01, "Program and one whole run".
 mod print;
-pub mod serve;
+mod serve;
 pub mod steps;
 pub mod text;

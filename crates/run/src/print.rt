@@ -5,7 +5,7 @@ ghost use mathlib.Core.List.{[], _∷_};
 ghost use Prim.Native.Nat.{_+_, _≤_, _<_, _^_};
 ghost use lib.ListN.{length, set};
 ghost use lib.Seq.{sets};
-ghost use Rattle.run.specs.Text.{decimal, cell, rowText};
+ghost use Rattle.printed.specs.Text.{decimal, cell, rowText};
 
 const COMMA: u8 = 44;
 

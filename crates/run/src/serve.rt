@@ -6,19 +6,13 @@ ghost use lib.ListN.{length};
 ghost use lib.Seq.{sets};
 ghost use Rattle.record.specs.SoundTest.{soundB};
 ghost use Rattle.record.specs.Run.{toldOf, answerTold, phaseTold, reasonTold};
-ghost use Rattle.site.specs.Site.{limit};
-ghost use Rattle.run.specs.Steps.{stepsFrom, rowsIn, mostSteps};
-ghost use Rattle.run.specs.Printed.{servedOf};
+ghost use Rattle.says.specs.Site.{limit};
+ghost use Rattle.printed.specs.Steps.{stepsFrom, rowsIn, mostSteps};
+ghost use Rattle.printed.specs.Printed.{servedOf};
 use crate::steps::MOST_STEPS;
 use crate::steps::decode;
+use printed::serve::Served;
 use record::record::Record;
-
-// The record after the steps of a sheet, how many there were, and whether the sheet ends behind them.
-pub struct Served {
-    pub next: Record,
-    pub count: usize,
-    pub whole: bool,
-}
 
 // Runs the steps of the rows from a position on.
 pub(crate) fn serve<'a>(

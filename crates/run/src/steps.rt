@@ -1,18 +1,22 @@
 // A steps sheet becomes a list of steps, up to the first row of bad form. Nothing here knows of a record.
 ghost use mathlib.Core.Path.{_≡_};
 ghost use Prim.Native.Nat.{_≤_};
-ghost use lib.ListN.{length};
+ghost use lib.ListN.{length, drop};
 ghost use lib.Seq.{sets};
-ghost use Rattle.site.specs.Site.{limit};
-ghost use Rattle.run.specs.Steps.{kindAt, personAt, lineAt, headerAt, headingOf, stepsFrom, decodedOf, mostSteps};
+ghost use Rattle.says.specs.Site.{limit};
+ghost use Rattle.printed.specs.Steps.{stepWords, placeAmong, kindAt, personAt, lineAt, headerAt, headingOf, stepsFrom, decodedOf, mostSteps};
+use grammar::cut::Cell;
+use grammar::cut::Cells;
+use grammar::cut::RowCut;
+use grammar::say::Number;
+use printed::steps::Decoded;
+use printed::steps::Heading;
+use printed::steps::Line;
 use sheet::LIMIT;
-use sheet::cut::Cell;
-use sheet::cut::Cells;
-use sheet::cut::RowCut;
 use sheet::cut::cut_row;
-use sheet::say::Number;
 use sheet::say::is_word;
 use sheet::say::number_of;
+use sheet::say::says_words;
 
 // A row that is a step has eight bytes at least, so that a sheet has at most so many.
 pub const MOST_STEPS: usize = 6144;
@@ -22,29 +26,50 @@ const CARD: u8 = 0;
 
 const UNKNOWN: u8 = 10;
 
-// What the beginning of a steps sheet is.
-pub enum Heading {
-    // over the limit
-    TooLong,
-    // not the header
-    Wrong,
-    // the header; the first data row begins there
-    Rows(usize),
+// The same of a field that names none of the first eight.
+fn kind_from_dark(s: &[u8], cell: Cell) -> u8
+    ensures { λ r. ⌜ r ≡ placeAmong (drop 8 stepWords) (now (s .entry)) cell 8 ⌝ }
+{
+    if is_word(s, cell, b"dark") {
+        return 8;
+    }
+    if is_word(s, cell, b"ack") {
+        return 9;
+    }
+    UNKNOWN
 }
 
-// What a row says: the step's number, its door and its person; or it is of bad form.
-pub enum Line {
-    Step(u8, u16, u16),
-    Bad,
+// The same of a field that names none of the first six.
+fn kind_from_passed(s: &[u8], cell: Cell) -> u8
+    ensures { λ r. ⌜ r ≡ placeAmong (drop 6 stepWords) (now (s .entry)) cell 6 ⌝ }
+{
+    if is_word(s, cell, b"passed") {
+        return 6;
+    }
+    if is_word(s, cell, b"lapsed") {
+        return 7;
+    }
+    kind_from_dark(s, cell)
 }
 
-// How far the rows were read: so many steps, and whether the sheet ends behind them or a row of bad form follows.
-pub struct Decoded {
-    pub count: usize,
-    pub whole: bool,
+// The same of a field that names none of the first three steps.
+fn kind_from_red(s: &[u8], cell: Cell) -> u8
+    ensures { λ r. ⌜ r ≡ placeAmong (drop 3 stepWords) (now (s .entry)) cell 3 ⌝ }
+{
+    if is_word(s, cell, b"red") {
+        return 3;
+    }
+    if is_word(s, cell, b"walk") {
+        return 4;
+    }
+    if is_word(s, cell, b"tick") {
+        return 5;
+    }
+    kind_from_passed(s, cell)
 }
 
-// The number of the step that a field names, in the paper's order.
+// The number of the step that a field names, in the paper's order. Here and below a few words are tried at a time, and the next
+// function tries those behind them.
 fn kind_of(s: &[u8], cell: Cell) -> u8
     ensures { λ r. ⌜ r ≡ kindAt (now (s .entry)) cell ⌝ }
 {
@@ -57,28 +82,7 @@ fn kind_of(s: &[u8], cell: Cell) -> u8
     if is_word(s, cell, b"green") {
         return 2;
     }
-    if is_word(s, cell, b"red") {
-        return 3;
-    }
-    if is_word(s, cell, b"walk") {
-        return 4;
-    }
-    if is_word(s, cell, b"tick") {
-        return 5;
-    }
-    if is_word(s, cell, b"passed") {
-        return 6;
-    }
-    if is_word(s, cell, b"lapsed") {
-        return 7;
-    }
-    if is_word(s, cell, b"dark") {
-        return 8;
-    }
-    if is_word(s, cell, b"ack") {
-        return 9;
-    }
-    UNKNOWN
+    kind_from_red(s, cell)
 }
 
 // The person that a row names: a number for `card`, and nothing for every other step.
@@ -121,19 +125,7 @@ fn line_of(s: &[u8], cells: Cells) -> Line
 fn is_header(s: &[u8], cells: Cells) -> bool
     ensures { λ r. ⌜ r ≡ headerAt (now (s .entry)) cells ⌝ }
 {
-    if cells.count != 3 {
-        return false;
-    }
-    let first = cells.first;
-    let second = cells.second;
-    let third = cells.third;
-    if !is_word(s, first, b"step") {
-        return false;
-    }
-    if !is_word(s, second, b"door") {
-        return false;
-    }
-    is_word(s, third, b"person")
+    says_words(s, cells, b"step", b"door", b"person")
 }
 
 // What the beginning of a steps sheet is.

@@ -5,20 +5,21 @@ ghost use mathlib.Core.List.{[]};
 ghost use Prim.Native.Nat.{_+_, _*_, _≤_, _<_, _^_};
 ghost use lib.ListN.{length};
 ghost use lib.Seq.{sets};
-ghost use Rattle.rules.specs.Tables.{mostPeople};
+ghost use Rattle.tables.specs.Tables.{mostPeople};
 ghost use Rattle.record.specs.SoundTest.{soundB};
 ghost use Rattle.record.specs.Run.{lastOf};
-ghost use Rattle.site.specs.Site.{limit};
-ghost use Rattle.run.specs.Steps.{stepsFrom, rowsIn, mostSteps};
-ghost use Rattle.run.specs.Printed.{answerRows, runText, aloneText, ranText, panelText};
-ghost use Rattle.run.specs.Printed.{placesText, recordText, whereText, printedOf, written, printedNumber};
+ghost use Rattle.says.specs.Site.{limit};
+ghost use Rattle.printed.specs.Steps.{headingOf, stepsFrom, rowsIn, mostSteps};
+ghost use Rattle.printed.specs.Printed.{answerRows, runText, aloneText, ranText, stepsText, panelText};
+ghost use Rattle.printed.specs.Printed.{placesText, recordText, lastRecord, whereText, printedOf, written};
 use crate::print::put_bytes;
 use crate::print::put_four;
 use crate::print::put_pair;
 use crate::serve::serve;
-use crate::steps::Heading;
 use crate::steps::MOST_STEPS;
 use crate::steps::heading_of;
+use printed::steps::Heading;
+use printed::text::Printed;
 use record::record::Record;
 use site::read::read_site;
 
@@ -32,24 +33,6 @@ const BAD_FORM: u8 = 2;
 pub const MOST_PANEL_TEXT: usize = 81920;
 
 pub const MOST_WHERE_TEXT: usize = 512;
-
-// What became of a text: so many bytes of the lent list are it, or it doesn't fit and nothing was written.
-pub enum Printed {
-    Text(usize),
-    TooShort,
-}
-
-impl Printed {
-    // The paper's number.
-    pub fn number(self) -> u8
-        ensures { λ r. ⌜ r ≡ printedNumber self ⌝ }
-    {
-        match self {
-            Printed::Text(_) => 0,
-            Printed::TooShort => 13,
-        }
-    }
-}
 
 // A byte as a number of the text.
 fn wide(byte: u8) -> usize
@@ -165,6 +148,19 @@ fn print_steps<'a>(fresh: Record, s: &'a [u8], from: usize, out: &'a mut [u8]) -
     )
 }
 
+// A steps sheet, run from the record of a site and printed; or a number alone where it can't be run.
+fn print_headed<'a>(fresh: Record, steps: &'a [u8], out: &'a mut [u8]) -> Printed
+    requires { ⌜ soundB fresh ≡ true ⌝ }
+    ensures printed { λ r. ⌜ r ≡ printedOf (stepsText fresh (now (steps .entry)) (headingOf (now (steps .entry)))) (now (out .entry)) ⌝ }
+    ensures out { λ _. ⌜ now (out .exit) ≡ written (stepsText fresh (now (steps .entry)) (headingOf (now (steps .entry)))) (now (out .entry)) ⌝ }
+{
+    match heading_of(steps) {
+        Heading::TooLong => print_alone(TOO_LONG, out),
+        Heading::Wrong => print_alone(BAD_FORM, out),
+        Heading::Rows(from) => print_steps(fresh, steps, from, out),
+    }
+}
+
 // What `panel` prints.
 pub fn panel_text<'a>(site: &'a [u8], steps: &'a [u8], out: &'a mut [u8]) -> Printed
     ensures printed { λ r. ⌜ r ≡ printedOf (panelText (now (site .entry)) (now (steps .entry))) (now (out .entry)) ⌝ }
@@ -177,11 +173,7 @@ pub fn panel_text<'a>(site: &'a [u8], steps: &'a [u8], out: &'a mut [u8]) -> Pri
         return print_alone(number, out);
     }
     let fresh = read.record;
-    match heading_of(steps) {
-        Heading::TooLong => print_alone(TOO_LONG, out),
-        Heading::Wrong => print_alone(BAD_FORM, out),
-        Heading::Rows(from) => print_steps(fresh, steps, from, out),
-    }
+    print_headed(fresh, steps, out)
 }
 
 // The header of what `where` prints, and a row for each of these places.
@@ -236,6 +228,18 @@ fn record_after(fresh: Record, s: &[u8], from: usize) -> Record
     served.next
 }
 
+// The record after a steps sheet: the fresh one where the sheet can't be run.
+fn last_record(fresh: Record, steps: &[u8]) -> Record
+    requires { ⌜ soundB fresh ≡ true ⌝ }
+    ensures { λ r. ⌜ r ≡ lastRecord fresh (now (steps .entry)) (headingOf (now (steps .entry))) ⌝ }
+{
+    match heading_of(steps) {
+        Heading::TooLong => fresh,
+        Heading::Wrong => fresh,
+        Heading::Rows(from) => record_after(fresh, steps, from),
+    }
+}
+
 // What `where` prints.
 pub fn where_text<'a>(site: &'a [u8], steps: &'a [u8], out: &'a mut [u8]) -> Printed
     ensures printed { λ r. ⌜ r ≡ printedOf (whereText (now (site .entry)) (now (steps .entry))) (now (out .entry)) ⌝ }
@@ -247,9 +251,5 @@ pub fn where_text<'a>(site: &'a [u8], steps: &'a [u8], out: &'a mut [u8]) -> Pri
         return print_places(&[], out);
     }
     let fresh = read.record;
-    match heading_of(steps) {
-        Heading::TooLong => print_record(fresh, out),
-        Heading::Wrong => print_record(fresh, out),
-        Heading::Rows(from) => print_record(record_after(fresh, steps, from), out),
-    }
+    print_record(last_record(fresh, steps), out)
 }

@@ -1,10 +1,3 @@
--- What the promises of the crate `sheet` mean. `Grammar` is RFC 4180, `Say` the words and numbers of 01. `Cut` and `Rows` work
--- the cutters' answers out, and `Reader` where a reader moves to; `Where` says where a written row's fields lie, and `Meaning`
--- what the theorems of proofs/Theorems.antt show: that the answers are the grammar's.
-pub mod Grammar
-pub mod Say
-pub mod Cut
-pub mod Where
-pub mod Rows
+-- What the crate `sheet` promises of its reader: `Reader` says where a reader stands. The cutters' answers, and what a field says,
+-- are defined in the crate `grammar`.
 pub mod Reader
-pub mod Meaning

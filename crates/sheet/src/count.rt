@@ -1,16 +1,9 @@
 // A whole sheet: its rows, counted up to the first one that is broken.
 ghost use mathlib.Core.Path.{_≡_};
-ghost use Rattle.sheet.specs.Rows.{countRows};
-use crate::cut::RowCut;
+ghost use Rattle.grammar.specs.Rows.{countRows};
 use crate::cut::cut_row;
-
-// What counting the rows of a sheet finds.
-pub enum Counted {
-    // so many rows, and the sheet ends
-    All(usize),
-    // so many rows, and then one that is broken at this byte
-    UpTo(usize, usize),
-}
+use grammar::count::Counted;
+use grammar::cut::RowCut;
 
 pub fn count_rows(s: &[u8]) -> Counted
     ensures { λ r. ⌜ r ≡ countRows (now (s .entry)) ⌝ }

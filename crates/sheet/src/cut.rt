@@ -2,7 +2,13 @@
 // nothing is copied.
 ghost use mathlib.Core.Path.{_≡_};
 ghost use Prim.Native.Nat.{_<_, _^_};
-ghost use Rattle.sheet.specs.Cut.{emptyAt, upTo, bareMove, shutMove, moveOf, endOf, cutField, pushed, noCells, cutRow};
+ghost use Rattle.grammar.specs.Cut.{emptyAt, upTo, bareMove, shutMove, moveOf, endOf, cutField, pushed, noCells, cutRow};
+use grammar::cut::Cell;
+use grammar::cut::Cells;
+use grammar::cut::FieldCut;
+use grammar::cut::Mode;
+use grammar::cut::Move;
+use grammar::cut::RowCut;
 
 const QUOTE: u8 = 34;
 
@@ -11,40 +17,6 @@ const COMMA: u8 = 44;
 const CR: u8 = 13;
 
 const LF: u8 = 10;
-
-// What the bytes of a field so far have led to.
-pub enum Mode {
-    // no byte of the field yet
-    Fresh,
-    // in a bare field
-    Bare,
-    // in a quoted field, between its quotes
-    Open,
-    // in a quoted field, behind a quote that closes it or is the first of two
-    Shut,
-    // behind the CR that must have an LF
-    Return,
-}
-
-// Where a field's content lies in the sheet: from `start` up to, not including, `end`. Where a quote in the content is
-// doubled, the bytes there aren't the content itself.
-pub struct Cell {
-    pub start: usize,
-    pub end: usize,
-    pub doubled: bool,
-}
-
-// What a byte does.
-pub enum Move {
-    // the field goes on, in this mode and with this cell
-    Go(Mode, Cell),
-    // the field ends, and another follows in the row
-    NextField,
-    // the field ends, and so does the row
-    RowEnd,
-    // no continuation is a well-formed row
-    Wrong,
-}
 
 // The cell of a field of which no byte has come yet.
 fn empty_at(at: usize) -> Cell
@@ -123,16 +95,6 @@ fn advance(mode: Mode, cell: Cell, b: u8, next: usize) -> Move
     }
 }
 
-// What cutting a field finds.
-pub enum FieldCut {
-    // the field; a comma ends it, and the next field begins there
-    Next(Cell, usize),
-    // the field; the row ends with it, and the next row begins there (at the sheet's length: the sheet ends)
-    Last(Cell, usize),
-    // the first byte at which no continuation could be well formed, or the sheet's length where it ends too soon
-    Fault(usize),
-}
-
 // What a field is that the sheet ends in.
 fn at_end(mode: Mode, cell: Cell, len: usize) -> FieldCut
     ensures { λ r. ⌜ r ≡ endOf mode cell len ⌝ }
@@ -172,14 +134,6 @@ pub fn cut_field(s: &[u8], at: usize) -> FieldCut
         }
     }
     at_end(mode, cell, i)
-}
-
-// The fields of a row: how many, and where the first three lie.
-pub struct Cells {
-    pub count: usize,
-    pub first: Cell,
-    pub second: Cell,
-    pub third: Cell,
 }
 
 // The fields with one more behind them.
@@ -229,16 +183,6 @@ fn no_cells() -> Cells
         second: none,
         third: none,
     }
-}
-
-// What cutting a row finds.
-pub enum RowCut {
-    // the row's fields; the next row begins there (at the sheet's length: the sheet ends)
-    Cut(Cells, usize),
-    // no row: the position is at the sheet's end or behind it
-    NoRow,
-    // the first byte at which no continuation could be a well-formed row, or the sheet's length where it ends too soon
-    Broken(usize),
 }
 
 // The row at a position of the sheet.

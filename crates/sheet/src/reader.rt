@@ -1,10 +1,11 @@
 // The row reader: it holds a sheet and the byte that it has come to. Its functions are thin over the row cutter, which takes the
 // sheet and the place. `first_data_row` stands above them, so that a caller with a sheet of bytes needs no reader of its own.
 ghost use mathlib.Core.Path.{_≡_};
-ghost use Rattle.sheet.specs.Cut.{cutRow};
-ghost use Rattle.sheet.specs.Reader.{pastRow, firstDataRow, readerAt, movedOn};
-use crate::cut::RowCut;
+ghost use Rattle.grammar.specs.Cut.{cutRow};
+ghost use Rattle.grammar.specs.Past.{pastRow, firstDataRow};
+ghost use Rattle.sheet.specs.Reader.{readerAt, movedOn};
 use crate::cut::cut_row;
+use grammar::cut::RowCut;
 
 pub struct Reader<'a> {
     pub sheet: &'a [u8],

@@ -2,17 +2,13 @@
 ghost use mathlib.Core.Path.{_≡_};
 ghost use Prim.Native.Nat.{_≤_};
 ghost use lib.ListN.{length};
-ghost use Rattle.sheet.specs.Say.{width, contentAt, sameBytes, isWord, needlessZero, digitsFrom, numberOf, numberAt};
-use crate::cut::Cell;
+ghost use Rattle.grammar.specs.Say.{width, contentAt, sameBytes, isWord, needlessZero, digitsFrom, numberOf, numberAt, saysWords};
+use grammar::cut::Cell;
+use grammar::cut::Cells;
+use grammar::say::Number;
 
 // A number has at most this many digits.
 const WIDTH: usize = 3;
-
-// What a field says as a number.
-pub enum Number {
-    Is(usize),
-    None,
-}
 
 // The bytes of a cell, as a part of the sheet; no bytes where the cell doesn't lie in the sheet.
 fn content<'a>(s: &'a [u8], cell: Cell) -> &'a [u8]
@@ -103,6 +99,25 @@ pub fn is_word(s: &[u8], cell: Cell, word: &[u8]) -> bool
         return false;
     }
     same(content(s, cell), word)
+}
+
+// Whether a row has three fields and they are these words.
+pub fn says_words(s: &[u8], cells: Cells, first: &[u8], second: &[u8], third: &[u8]) -> bool
+    ensures { λ r. ⌜ r ≡ saysWords (now (s .entry)) cells (now (first .entry)) (now (second .entry)) (now (third .entry)) ⌝ }
+{
+    if cells.count != 3 {
+        return false;
+    }
+    let a = cells.first;
+    let b = cells.second;
+    let c = cells.third;
+    if !is_word(s, a, first) {
+        return false;
+    }
+    if !is_word(s, b, second) {
+        return false;
+    }
+    is_word(s, c, third)
 }
 
 // The number that a field of the sheet is. One with a doubled quote in it is no number.

@@ -1,40 +1,28 @@
 // A site sheet becomes a fresh record, or a refusal with its place.
 //
-// Here is what a row says, and the tables while a sheet is being read, with how a row goes into them; `read` has the whole
-// sheet. The definitions are in specs/, in the words of paper 01, "Site sheet" and "Numbers given back".
+// Here is what a row says, and how a row goes into the tables while a sheet is being read; `read` has the whole sheet. The
+// definitions, and the theorems of them, are those of crate `says`.
 ghost use Prim.Native.Nat.{ℕ};
 ghost use mathlib.Core.Bool.{Bool};
 ghost use mathlib.Core.List.{List};
 ghost use mathlib.Core.Path.{_≡_};
-ghost use Rattle.site.specs.Line.{wordOf, lineAt, headerAt};
-ghost use Rattle.site.specs.Draft.{Bounded, siteFits, doorFits, exitFits, rightFits};
-ghost use Rattle.site.specs.Draft.{takeSite, takeDoor, takeExit, takeRight, takeLine};
-ghost use Rattle.site.specs.Lent.{counted, draftOf, after};
-use sheet::cut::Cell;
-use sheet::cut::Cells;
-use sheet::say::Number;
+ghost use Rattle.says.specs.Line.{wordOf, lineAt, headerAt};
+ghost use Rattle.says.specs.Draft.{Bounded, siteFits, doorFits, exitFits, rightFits};
+ghost use Rattle.says.specs.Draft.{takeLine};
+ghost use Rattle.says.specs.Lent.{counted, draftOf, after};
+use grammar::cut::Cell;
+use grammar::cut::Cells;
+use grammar::say::Number;
+use says::Counted;
+use says::Counts;
+use says::Fault;
+use says::Line;
+use says::Word;
 use sheet::say::is_word;
 use sheet::say::number_of;
+use sheet::say::says_words;
 
 pub mod read;
-
-// The first field of a row.
-pub enum Word {
-    Site,
-    Door,
-    Exit,
-    Right,
-    Unknown,
-}
-
-// A row, or that it is of bad form.
-pub enum Line {
-    Site(usize, usize),
-    Door(usize, usize),
-    Exit(usize, usize),
-    Right(usize, usize),
-    Bad,
-}
 
 // The word that a field is.
 fn word_of(s: &[u8], cell: Cell) -> Word
@@ -84,19 +72,7 @@ fn line_of(s: &[u8], cells: Cells) -> Line
 fn is_header(s: &[u8], cells: Cells) -> bool
     ensures { λ r. ⌜ r ≡ headerAt (now (s .entry)) cells ⌝ }
 {
-    if cells.count != 3 {
-        return false;
-    }
-    let first = cells.first;
-    let second = cells.second;
-    let third = cells.third;
-    if !is_word(s, first, b"kind") {
-        return false;
-    }
-    if !is_word(s, second, b"a") {
-        return false;
-    }
-    is_word(s, third, b"b")
+    says_words(s, cells, b"kind", b"a", b"b")
 }
 
 const MOST_PEOPLE: usize = 64;
@@ -104,46 +80,6 @@ const MOST_PEOPLE: usize = 64;
 const MOST_LOCATIONS: usize = 32;
 
 const MOST_DOORS: usize = 64;
-
-// The counts. No locations as long as the `site` row hasn't come.
-pub struct Counts {
-    pub people: usize,
-    pub locations: usize,
-    pub doors: usize,
-}
-
-// The counts, each door's origin and destination, each location's exit with a mark where one has been given, and the
-// rights, 32 to a person.
-pub struct Draft {
-    pub people: usize,
-    pub locations: usize,
-    pub doors: usize,
-    pub origin: [u8; 64],
-    pub destination: [u8; 64],
-    pub exit: [u8; 32],
-    pub given: [bool; 32],
-    pub right: [bool; 2048],
-}
-
-// What is wrong with a row.
-pub enum Fault {
-    // nothing
-    Sound,
-    // 2: bad form
-    Form,
-    // 5: not the `site` row that has to come first
-    NoSite,
-    // 3: out of range
-    Range,
-    // 4: said before
-    Twice,
-}
-
-// The counts after a row, and what is wrong with it.
-pub struct Counted {
-    pub counts: Counts,
-    pub fault: Fault,
-}
 
 // Whether so many people and locations make a site.
 fn site_fits(people: usize, locations: usize) -> bool
@@ -203,125 +139,114 @@ fn right_fits(people: usize, locations: usize, person: usize, location: usize) -
     location < locations
 }
 
-impl Counts {
-    // These counts after a row with which this is wrong, or nothing.
-    fn told(self, fault: Fault) -> Counted
-        ensures { λ r. ⌜ r ≡ counted self fault ⌝ }
-    {
-        Counted {
-            counts: self,
-            fault,
-        }
-    }
+// These counts after a row with which this is wrong, or nothing.
+fn told(counts: Counts, fault: Fault) -> Counted
+    ensures { λ r. ⌜ r ≡ counted counts fault ⌝ }
+{
+    Counted { counts, fault }
+}
 
-    // `site,P,L`
-    fn take_site(mut self, people: usize, locations: usize) -> Counted
-        ensures { λ r. ⌜ ((origin destination exit : List ℕ) (given right : List Bool) → after r origin destination exit given right ≡ takeSite (draftOf self origin destination exit given right) people locations) ⌝ }
-    {
-        if !site_fits(people, locations) {
-            return self.told(Fault::Range);
-        }
-        if self.locations != 0 {
-            return self.told(Fault::Twice);
-        }
-        self.people = people;
-        self.locations = locations;
-        self.told(Fault::Sound)
+// `site,P,L`
+fn take_site(mut counts: Counts, people: usize, locations: usize) -> Counted
+    ensures { λ r. ⌜ ((origin destination exit : List ℕ) (given right : List Bool) → after r origin destination exit given right ≡ takeLine (draftOf counts origin destination exit given right) (Line.Site people locations)) ⌝ }
+{
+    if !site_fits(people, locations) {
+        return told(counts, Fault::Range);
     }
-
-    // `door,o,t`
-    fn take_door<'a>(
-        mut self,
-        origin: &'a mut [u8; 64],
-        destination: &'a mut [u8; 64],
-        from: usize,
-        to: usize,
-    ) -> Counted
-        requires { ⌜ Bounded self ⌝ }
-        ensures { λ r. ⌜ ((exit : List ℕ) (given right : List Bool) → after r (now (origin .exit)) (now (destination .exit)) exit given right ≡ takeDoor (draftOf self (now (origin .entry)) (now (destination .entry)) exit given right) from to) ⌝ }
-    {
-        if !door_fits(self.locations, self.doors, from, to) {
-            return self.told(Fault::Range);
-        }
-        let door = self.doors;
-        origin[door] = from as u8;
-        destination[door] = to as u8;
-        self.doors = door + 1;
-        self.told(Fault::Sound)
+    if counts.locations != 0 {
+        return told(counts, Fault::Twice);
     }
+    counts.people = people;
+    counts.locations = locations;
+    told(counts, Fault::Sound)
+}
 
-    // `exit,l,m`
-    fn take_exit<'a>(
-        self,
-        exit: &'a mut [u8; 32],
-        given: &'a mut [bool; 32],
-        from: usize,
-        to: usize,
-    ) -> Counted
-        requires { ⌜ Bounded self ⌝ }
-        ensures { λ r. ⌜ ((origin destination : List ℕ) (right : List Bool) → after r origin destination (now (exit .exit)) (now (given .exit)) right ≡ takeExit (draftOf self origin destination (now (exit .entry)) (now (given .entry)) right) from to) ⌝ }
-    {
-        if !exit_fits(self.locations, from, to) {
-            return self.told(Fault::Range);
-        }
-        if given[from] {
-            return self.told(Fault::Twice);
-        }
-        exit[from] = to as u8;
-        given[from] = true;
-        self.told(Fault::Sound)
+// `door,o,t`
+fn take_door<'a>(
+    mut counts: Counts,
+    origin: &'a mut [u8; 64],
+    destination: &'a mut [u8; 64],
+    from: usize,
+    to: usize,
+) -> Counted
+    requires { ⌜ Bounded counts ⌝ }
+    ensures { λ r. ⌜ ((exit : List ℕ) (given right : List Bool) → after r (now (origin .exit)) (now (destination .exit)) exit given right ≡ takeLine (draftOf counts (now (origin .entry)) (now (destination .entry)) exit given right) (Line.Door from to)) ⌝ }
+{
+    if counts.locations == 0 {
+        return told(counts, Fault::NoSite);
     }
-
-    // `right,p,l`
-    fn take_right(self, right: &mut [bool; 2048], person: usize, location: usize) -> Counted
-        requires { ⌜ Bounded self ⌝ }
-        ensures { λ r. ⌜ ((origin destination exit : List ℕ) (given : List Bool) → after r origin destination exit given (now (right .exit)) ≡ takeRight (draftOf self origin destination exit given (now (right .entry))) person location) ⌝ }
-    {
-        if !right_fits(self.people, self.locations, person, location) {
-            return self.told(Fault::Range);
-        }
-        let at = person * MOST_LOCATIONS + location;
-        if right[at] {
-            return self.told(Fault::Twice);
-        }
-        right[at] = true;
-        self.told(Fault::Sound)
+    if !door_fits(counts.locations, counts.doors, from, to) {
+        return told(counts, Fault::Range);
     }
+    let door = counts.doors;
+    origin[door] = from as u8;
+    destination[door] = to as u8;
+    counts.doors = door + 1;
+    told(counts, Fault::Sound)
+}
 
-    // A row goes into the tables that are lent, which stay as they are where something is wrong with it.
-    fn take<'a>(
-        self,
-        line: Line,
-        origin: &'a mut [u8; 64],
-        destination: &'a mut [u8; 64],
-        exit: &'a mut [u8; 32],
-        given: &'a mut [bool; 32],
-        right: &'a mut [bool; 2048],
-    ) -> Counted
-        requires { ⌜ Bounded self ⌝ }
-        ensures { λ r. ⌜ after r (now (origin .exit)) (now (destination .exit)) (now (exit .exit)) (now (given .exit)) (now (right .exit)) ≡ takeLine (draftOf self (now (origin .entry)) (now (destination .entry)) (now (exit .entry)) (now (given .entry)) (now (right .entry))) line ⌝ }
-    {
-        match line {
-            Line::Site(people, locations) => self.take_site(people, locations),
-            Line::Door(from, to) => {
-                if self.locations == 0 {
-                    return self.told(Fault::NoSite);
-                }
-                self.take_door(origin, destination, from, to)
-            }
-            Line::Exit(from, to) => {
-                if self.locations == 0 {
-                    return self.told(Fault::NoSite);
-                }
-                self.take_exit(exit, given, from, to)
-            }
-            Line::Right(person, location) => {
-                if self.locations == 0 {
-                    return self.told(Fault::NoSite);
-                }
-                self.take_right(right, person, location)
-            }
-            Line::Bad => self.told(Fault::Form),
-        }
+// `exit,l,m`
+fn take_exit<'a>(
+    counts: Counts,
+    exit: &'a mut [u8; 32],
+    given: &'a mut [bool; 32],
+    from: usize,
+    to: usize,
+) -> Counted
+    requires { ⌜ Bounded counts ⌝ }
+    ensures { λ r. ⌜ ((origin destination : List ℕ) (right : List Bool) → after r origin destination (now (exit .exit)) (now (given .exit)) right ≡ takeLine (draftOf counts origin destination (now (exit .entry)) (now (given .entry)) right) (Line.Exit from to)) ⌝ }
+{
+    if counts.locations == 0 {
+        return told(counts, Fault::NoSite);
+    }
+    if !exit_fits(counts.locations, from, to) {
+        return told(counts, Fault::Range);
+    }
+    if given[from] {
+        return told(counts, Fault::Twice);
+    }
+    exit[from] = to as u8;
+    given[from] = true;
+    told(counts, Fault::Sound)
+}
+
+// `right,p,l`
+fn take_right(counts: Counts, right: &mut [bool; 2048], person: usize, location: usize) -> Counted
+    requires { ⌜ Bounded counts ⌝ }
+    ensures { λ r. ⌜ ((origin destination exit : List ℕ) (given : List Bool) → after r origin destination exit given (now (right .exit)) ≡ takeLine (draftOf counts origin destination exit given (now (right .entry))) (Line.Right person location)) ⌝ }
+{
+    if counts.locations == 0 {
+        return told(counts, Fault::NoSite);
+    }
+    if !right_fits(counts.people, counts.locations, person, location) {
+        return told(counts, Fault::Range);
+    }
+    let at = person * MOST_LOCATIONS + location;
+    if right[at] {
+        return told(counts, Fault::Twice);
+    }
+    right[at] = true;
+    told(counts, Fault::Sound)
+}
+
+// A row goes into the tables that are lent, which stay as they are where something is wrong with it.
+fn take<'a>(
+    counts: Counts,
+    line: Line,
+    origin: &'a mut [u8; 64],
+    destination: &'a mut [u8; 64],
+    exit: &'a mut [u8; 32],
+    given: &'a mut [bool; 32],
+    right: &'a mut [bool; 2048],
+) -> Counted
+    requires { ⌜ Bounded counts ⌝ }
+    ensures { λ r. ⌜ after r (now (origin .exit)) (now (destination .exit)) (now (exit .exit)) (now (given .exit)) (now (right .exit)) ≡ takeLine (draftOf counts (now (origin .entry)) (now (destination .entry)) (now (exit .entry)) (now (given .entry)) (now (right .entry))) line ⌝ }
+{
+    match line {
+        Line::Site(people, locations) => take_site(counts, people, locations),
+        Line::Door(from, to) => take_door(counts, origin, destination, from, to),
+        Line::Exit(from, to) => take_exit(counts, exit, given, from, to),
+        Line::Right(person, location) => take_right(counts, right, person, location),
+        Line::Bad => told(counts, Fault::Form),
     }
 }

@@ -1,68 +1,33 @@
 // The whole sheet: its rows go into the tables one by one, and then the tables are judged by the rules of the whole sheet.
 ghost use mathlib.Core.Path.{_≡_};
 ghost use lib.ListN.{length};
-ghost use Rattle.sheet.specs.Rows.{rowsFrom};
-ghost use Rattle.site.specs.Draft.{blankDraft};
-ghost use Rattle.site.specs.Lent.{noCounts, draftOf, stop, stoppedAt};
-ghost use Rattle.site.specs.Site.{soundFault, verdictOf, linesIn, readLines, blankRecord, acceptedSite, refusedSite};
-ghost use Rattle.site.specs.Site.{judged, settled, siteOf, numberOf, firstPlace, secondPlace};
-use crate::Counts;
-use crate::Draft;
-use crate::Fault;
+ghost use Rattle.grammar.specs.Rows.{rowsFrom};
+ghost use Rattle.says.specs.Draft.{blankDraft};
+ghost use Rattle.says.specs.Lent.{noCounts, draftOf, stop, stoppedAt};
+ghost use Rattle.says.specs.Site.{soundFault, verdictOf, linesIn, readLines, blankRecord, acceptedSite, refusedSite};
+ghost use Rattle.says.specs.Site.{judgedBy10, judgedFrom8, judged, settled, siteOf};
 use crate::is_header;
 use crate::line_of;
+use crate::take;
+use grammar::cut::RowCut;
 use record::record::Record;
-use rules::Found;
-use rules::RightFound;
+use says::Counts;
+use says::Draft;
+use says::Fault;
+use says::Reading;
+use says::SiteRead;
+use says::Stop;
 use sheet::LIMIT;
-use sheet::cut::RowCut;
 use sheet::cut::cut_row;
+use tables::Found;
+use tables::RightFound;
+use verdict::Verdict;
 
-// What is said of a sheet, with the place that is told.
-pub enum Verdict {
-    Accepted,
-    TooLong,
-    BadRow(usize),
-    OutOfRange(usize),
-    Twice(usize),
-    NoSite,
-    NoExit(usize),
-    Stray(usize),
-    NoDoor(usize),
-    NoRight(usize, usize),
-    ShutOut(usize),
-}
-
-// The answer to a sheet: what is said of it, and the fresh record, or a blank one where the sheet is refused.
-pub struct SiteRead {
-    pub verdict: Verdict,
-    pub record: Record,
-}
-
-// How far the rows of a sheet were read: the tables, what is wrong with the last row, and its number.
-pub struct Reading {
-    pub draft: Draft,
-    pub fault: Fault,
-    pub row: usize,
-}
-
-// Where the rows of a sheet stopped: the counts then, what is wrong with the last row, and its number.
-pub struct Stop {
-    pub counts: Counts,
-    pub fault: Fault,
-    pub row: usize,
-}
-
-impl Counts {
-    fn stop(self, fault: Fault, row: usize) -> Stop
-        ensures { λ r. ⌜ r ≡ stop self fault row ⌝ }
-    {
-        Stop {
-            counts: self,
-            fault,
-            row,
-        }
-    }
+// The rows stop with these counts.
+fn stop(counts: Counts, fault: Fault, row: usize) -> Stop
+    ensures { λ r. ⌜ r ≡ stop counts fault row ⌝ }
+{
+    Stop { counts, fault, row }
 }
 
 // Whether nothing is wrong with a row.
@@ -114,18 +79,18 @@ fn take_rows<'s, 'a>(
         match cut_row(s, at) {
             RowCut::Cut(cells, next) => {
                 let line = line_of(s, cells);
-                let told = counts.take(line, origin, destination, exit, given, right);
+                let told = take(counts, line, origin, destination, exit, given, right);
                 let fault = told.fault;
                 let after = told.counts;
                 if !is_sound(fault) {
-                    return after.stop(fault, row);
+                    return stop(after, fault, row);
                 }
                 counts = after;
                 at = next;
                 row += 1;
             }
-            RowCut::NoRow => return counts.stop(Fault::Sound, row),
-            RowCut::Broken(_) => return counts.stop(Fault::Form, row),
+            RowCut::NoRow => return stop(counts, Fault::Sound, row),
+            RowCut::Broken(_) => return stop(counts, Fault::Form, row),
         }
     }
 }
@@ -177,88 +142,97 @@ fn refused(verdict: Verdict) -> SiteRead
     }
 }
 
-impl Draft {
-    // The fresh record of these tables.
-    fn accepted(self) -> SiteRead
-        ensures { λ r. ⌜ r ≡ acceptedSite self ⌝ }
-    {
-        let origin = self.origin;
-        let destination = self.destination;
-        let exit = self.exit;
-        let right = self.right;
-        SiteRead {
-            verdict: Verdict::Accepted,
-            record: Record::fresh(
-                self.people,
-                self.locations,
-                self.doors,
-                origin,
-                destination,
-                exit,
-                right,
-            ),
-        }
-    }
-
-    // Rules 6 to 10 over the whole sheet, each finished before the next.
-    fn judged(self) -> SiteRead
-        ensures { λ r. ⌜ r ≡ judged self ⌝ }
-    {
-        let people = self.people;
-        let locations = self.locations;
-        let doors = self.doors;
-        if let Found::At(l) = rules::first_no_exit(locations, &self.given) {
-            return refused(Verdict::NoExit(l));
-        }
-        if let Found::At(l) = rules::first_stray(locations, &self.exit) {
-            return refused(Verdict::Stray(l));
-        }
-        if let Found::At(l) = rules::first_no_door(
-            locations,
-            doors,
-            &self.origin,
-            &self.destination,
-            &self.exit,
-        ) {
-            return refused(Verdict::NoDoor(l));
-        }
-        if let RightFound::At { person, location } = rules::first_no_right(
-            people,
-            locations,
-            &self.exit,
-            &self.right,
-        ) {
-            return refused(Verdict::NoRight(person, location));
-        }
-        if let Found::At(p) = rules::first_shut_out(
-            people,
-            doors,
-            &self.origin,
-            &self.destination,
-            &self.right,
-        ) {
-            return refused(Verdict::ShutOut(p));
-        }
-        self.accepted()
+// The fresh record of these tables.
+fn accepted(draft: Draft) -> SiteRead
+    ensures { λ r. ⌜ r ≡ acceptedSite draft ⌝ }
+{
+    let origin = draft.origin;
+    let destination = draft.destination;
+    let exit = draft.exit;
+    let right = draft.right;
+    SiteRead {
+        verdict: Verdict::Accepted,
+        record: Record::fresh(
+            draft.people,
+            draft.locations,
+            draft.doors,
+            origin,
+            destination,
+            exit,
+            right,
+        ),
     }
 }
 
-impl Reading {
-    // The answer to a sheet of which this was read.
-    fn settled(self) -> SiteRead
-        ensures { λ r. ⌜ r ≡ settled self ⌝ }
-    {
-        let fault = self.fault;
-        let draft = self.draft;
-        let row = self.row;
-        if !is_sound(fault) {
-            return refused(verdict_of(fault, row));
-        }
-        if draft.locations == 0 {
-            return refused(Verdict::NoSite);
-        }
-        draft.judged()
+// Rule 10 over the whole sheet, and then the record.
+fn judged_by_10(draft: Draft) -> SiteRead
+    ensures { λ r. ⌜ r ≡ judgedBy10 draft ⌝ }
+{
+    if let Found::At(p) = rules::first_shut_out(
+        draft.people,
+        draft.doors,
+        &draft.origin,
+        &draft.destination,
+        &draft.right,
+    ) {
+        return refused(Verdict::ShutOut(p));
     }
+    accepted(draft)
+}
+
+// Rules 8 and 9 over the whole sheet, and then the one behind them.
+fn judged_from_8(draft: Draft) -> SiteRead
+    ensures { λ r. ⌜ r ≡ judgedFrom8 draft ⌝ }
+{
+    let locations = draft.locations;
+    if let Found::At(l) = rules::first_no_door(
+        locations,
+        draft.doors,
+        &draft.origin,
+        &draft.destination,
+        &draft.exit,
+    ) {
+        return refused(Verdict::NoDoor(l));
+    }
+    if let RightFound::At { person, location } = rules::first_no_right(
+        draft.people,
+        locations,
+        &draft.exit,
+        &draft.right,
+    ) {
+        return refused(Verdict::NoRight(person, location));
+    }
+    judged_by_10(draft)
+}
+
+// Rules 6 to 10 over the whole sheet, each finished before the next.
+fn judged(draft: Draft) -> SiteRead
+    ensures { λ r. ⌜ r ≡ judged draft ⌝ }
+{
+    let locations = draft.locations;
+    if let Found::At(l) = rules::first_no_exit(locations, &draft.given) {
+        return refused(Verdict::NoExit(l));
+    }
+    if let Found::At(l) = rules::first_stray(locations, &draft.exit) {
+        return refused(Verdict::Stray(l));
+    }
+    judged_from_8(draft)
+}
+
+// The answer to a sheet of which this was read.
+fn settled(reading: Reading) -> SiteRead
+    ensures { λ r. ⌜ r ≡ settled reading ⌝ }
+{
+    let fault = reading.fault;
+    let draft = reading.draft;
+    let row = reading.row;
+    if !is_sound(fault) {
+        return refused(verdict_of(fault, row));
+    }
+    if draft.locations == 0 {
+        return refused(Verdict::NoSite);
+    }
+    judged(draft)
 }
 
 // The answer to a site sheet: the fresh record that it describes, or what is wrong with it.
@@ -273,68 +247,9 @@ pub fn read_site(s: &[u8]) -> SiteRead
             if !is_header(s, cells) {
                 return refused(Verdict::BadRow(0));
             }
-            read_rows(s, next).settled()
+            settled(read_rows(s, next))
         }
         RowCut::NoRow => refused(Verdict::BadRow(0)),
         RowCut::Broken(_) => refused(Verdict::BadRow(0)),
-    }
-}
-
-impl Verdict {
-    // The paper's number.
-    pub fn number(self) -> u8
-        ensures { λ r. ⌜ r ≡ numberOf self ⌝ }
-    {
-        match self {
-            Verdict::Accepted => 0,
-            Verdict::TooLong => 1,
-            Verdict::BadRow(_) => 2,
-            Verdict::OutOfRange(_) => 3,
-            Verdict::Twice(_) => 4,
-            Verdict::NoSite => 5,
-            Verdict::NoExit(_) => 6,
-            Verdict::Stray(_) => 7,
-            Verdict::NoDoor(_) => 8,
-            Verdict::NoRight(_, _) => 9,
-            Verdict::ShutOut(_) => 10,
-        }
-    }
-
-    // The place that is told with it: a row, a location or a person; 0 where there is none.
-    pub fn place(self) -> usize
-        ensures { λ r. ⌜ r ≡ firstPlace self ⌝ }
-    {
-        match self {
-            Verdict::Accepted => 0,
-            Verdict::TooLong => 0,
-            Verdict::BadRow(row) => row,
-            Verdict::OutOfRange(row) => row,
-            Verdict::Twice(row) => row,
-            Verdict::NoSite => 1,
-            Verdict::NoExit(location) => location,
-            Verdict::Stray(location) => location,
-            Verdict::NoDoor(location) => location,
-            Verdict::NoRight(person, _) => person,
-            Verdict::ShutOut(person) => person,
-        }
-    }
-
-    // The second place: the location of 9, and 0 for all others.
-    pub fn second_place(self) -> usize
-        ensures { λ r. ⌜ r ≡ secondPlace self ⌝ }
-    {
-        match self {
-            Verdict::NoRight(_, location) => location,
-            Verdict::Accepted => 0,
-            Verdict::TooLong => 0,
-            Verdict::BadRow(_) => 0,
-            Verdict::OutOfRange(_) => 0,
-            Verdict::Twice(_) => 0,
-            Verdict::NoSite => 0,
-            Verdict::NoExit(_) => 0,
-            Verdict::Stray(_) => 0,
-            Verdict::NoDoor(_) => 0,
-            Verdict::ShutOut(_) => 0,
-        }
     }
 }

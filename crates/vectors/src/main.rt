@@ -7,8 +7,8 @@ use files::ROOM;
 use files::number_asked;
 use files::read_sheet;
 use libc::STDOUT_FILENO;
+use printed::text::Printed;
 use run::text::MOST_PANEL_TEXT;
-use run::text::Printed;
 use run::text::panel_text;
 use run::text::where_text;
 

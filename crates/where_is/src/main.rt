@@ -3,8 +3,8 @@
 use files::ROOM;
 use files::read_sheet;
 use libc::STDOUT_FILENO;
+use printed::text::Printed;
 use run::text::MOST_WHERE_TEXT;
-use run::text::Printed;
 use run::text::where_text;
 
 fn main() {

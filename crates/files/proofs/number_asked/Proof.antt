@@ -1,7 +1,7 @@
 -- `number_asked` meets its contract: a number has at most three digits. Assumes nothing.
 use mathlib.Core.Path.{sym, _∙_}
 use Rattle.files.specs.{given, none}
-use Rattle.sheet.proofs.Saying.{number-small}
+use Rattle.grammar.proofs.Saying.{number-small}
 use borrow.Author.Needs.{needs}
 use Rattle.files.proofs.number_asked.Statement.{statement}
 use Rattle.files.proofs.number_asked.Tie as tie

@@ -4,11 +4,11 @@ use borrow.Author.Needs.{needs}
 use native.Mathlib.Omega.{arith}
 use borrow.Fn.Kinds.{In}
 use borrow.Fn.PlainCycle.{Measures, is, falls, and}
-use Rattle.rules.proofs.Ways as ways
+use Rattle.tables.proofs.Ways as ways
 use Rattle.rules.proofs.way_length.Reads as way-length
 use Rattle.rules.proofs.way_length.Kinds as way-length-kinds
 use Rattle.rules.proofs.+way_length.Lts-way_length as way-length-lts
-use Rattle.rules.proofs.entry.Reads as entry-reads
+use Rattle.tables.proofs.lists.byte_at.Reads as byte-at-reads
 use Rattle.rules.proofs.+way_length.{statement}
 use Rattle.rules.proofs.+way_length.Tie.{close}
 
@@ -24,7 +24,7 @@ way-length-below t =
     and 1 way-length-kinds.ps (falls 1 way-length-kinds.ps _<_ μ-way-length t) way-length.Pre
 
 pub +way-length-spec : {M : Type 1} → statement M
-+way-length-spec = close μ-way-length λ t. way-length-lts.spec (entry-reads.Asked, entry-reads.Learnt, way-length-below t, way-length.Post) (way-length-at t) way-length.Post
++way-length-spec = close μ-way-length λ t. way-length-lts.spec (byte-at-reads.Asked, byte-at-reads.Learnt, way-length-below t, way-length.Post) (way-length-at t) way-length.Post
     (λ c. ways.length-spent _ _ _ (c .if1 .taken))
     (λ c. ways.length-outside _ _ _ (c .if2 .taken))
     (λ c. search needs)
@@ -33,6 +33,6 @@ pub +way-length-spec : {M : Type 1} → statement M
     (λ c κs. omega arith)
     (λ c.
     let a = c .before .before .before .before .before .args in
-    let short = ways.way-length (a .left - 1) (a .exit .now) (c .before .entry .result) in
+    let short = ways.way-length (a .left - 1) (a .exit .now) (c .before .byte-at .result) in
     omega (arith, c .way-length .ensures))
-    (λ c. ways.length-on _ _ _ _ _ (c .before .before .before .if1 .left) (c .before .before .if2 .left) (c .before .entry .ensures) (c .way-length .ensures))
+    (λ c. ways.length-on _ _ _ _ _ (c .before .before .before .if1 .left) (c .before .before .if2 .left) (c .before .byte-at .ensures) (c .way-length .ensures))

@@ -1,7 +1,7 @@
 -- `counts_fit` meets its contract: each return is decided by the tests before it. Assumes nothing.
 use borrow.Author.Tests.{le-leb, lt-leb}
-use Rattle.rules.specs.Tables.{andAlso}
-use Rattle.rules.specs.Tests.{countsFit}
+use Rattle.tables.specs.Tables.{andAlso}
+use Rattle.tables.specs.Tests.{countsFit}
 use Rattle.rules.proofs.counts_fit.Statement.{statement}
 use Rattle.rules.proofs.counts_fit.Tie as tie
 

@@ -1,8 +1,8 @@
 -- `doors_fit` meets its contract: the loop tests every number before it goes on, and answers whether every door fits. Assumes nothing.
 use Prim.Native.Nat.{_-_}
 use mathlib.Core.Bool.{true}
-use Rattle.rules.specs.Tests.{doorFits}
-use Rattle.rules.proofs.Scans.{Scan, scans}
+use Rattle.tables.specs.Tests.{doorFits}
+use Rattle.tables.proofs.Scans.{Scan, scans}
 use Rattle.rules.proofs.doors_fit.Statement.{statement}
 use Rattle.rules.proofs.doors_fit.Tie as tie
 

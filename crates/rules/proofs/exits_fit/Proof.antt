@@ -1,8 +1,8 @@
 -- `exits_fit` meets its contract: the loop tests every number before it goes on, and answers whether every exit fits. Assumes nothing.
 use Prim.Native.Nat.{_-_}
 use mathlib.Core.Bool.{true}
-use Rattle.rules.specs.Tests.{exitFits}
-use Rattle.rules.proofs.Scans.{Scan, scans}
+use Rattle.tables.specs.Tests.{exitFits}
+use Rattle.tables.proofs.Scans.{Scan, scans}
 use Rattle.rules.proofs.exits_fit.Statement.{statement}
 use Rattle.rules.proofs.exits_fit.Tie as tie
 

@@ -1,8 +1,8 @@
 -- `first_lacking` meets its contract: the loop tests every number before it goes on, and answers the least location that breaks rule 9 for this person. Assumes nothing.
 use Prim.Native.Nat.{_-_}
 use mathlib.Core.Bool.{false}
-use Rattle.rules.specs.Tests.{lacksRight}
-use Rattle.rules.proofs.Scans.{Scan, scans}
+use Rattle.tables.specs.Tests.{lacksRight}
+use Rattle.tables.proofs.Scans.{Scan, scans}
 use Rattle.rules.proofs.first_lacking.Statement.{statement}
 use Rattle.rules.proofs.first_lacking.Tie as tie
 

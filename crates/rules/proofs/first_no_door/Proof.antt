@@ -1,8 +1,8 @@
 -- `first_no_door` meets its contract: the loop tests every number before it goes on, and answers the least location with no door to its exit. Assumes nothing.
 use Prim.Native.Nat.{_-_}
 use mathlib.Core.Bool.{false}
-use Rattle.rules.specs.Tests.{lacksDoor, firstNoDoor}
-use Rattle.rules.proofs.Scans.{Scan, scans}
+use Rattle.tables.specs.Tests.{lacksDoor, firstNoDoor}
+use Rattle.tables.proofs.Scans.{Scan, scans}
 use Rattle.rules.proofs.first_no_door.Statement.{statement}
 use Rattle.rules.proofs.first_no_door.Tie as tie
 

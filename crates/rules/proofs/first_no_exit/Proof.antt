@@ -1,8 +1,8 @@
 -- `first_no_exit` meets its contract: the loop tests every number before it goes on, and answers the least location that has no exit. Assumes nothing.
 use Prim.Native.Nat.{_-_}
 use mathlib.Core.Bool.{false}
-use Rattle.rules.specs.Tests.{lacksExit, firstNoExit}
-use Rattle.rules.proofs.Scans.{Scan, scans}
+use Rattle.tables.specs.Tests.{lacksExit, firstNoExit}
+use Rattle.tables.proofs.Scans.{Scan, scans}
 use Rattle.rules.proofs.first_no_exit.Statement.{statement}
 use Rattle.rules.proofs.first_no_exit.Tie as tie
 

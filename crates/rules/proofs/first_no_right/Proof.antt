@@ -1,7 +1,7 @@
 -- `first_no_right` meets its contract: it asks for the person, and then for the location of that person. Assumes nothing.
 use borrow.Author.Needs.{needs}
-use Rattle.rules.specs.Below.{leastPair, locationOf, withLocation}
-use Rattle.rules.specs.Tests.{firstNoRight}
+use Rattle.tables.specs.Below.{leastPair, locationOf, withLocation}
+use Rattle.tables.specs.Tests.{firstNoRight}
 use Rattle.rules.proofs.first_no_right.Statement.{statement}
 use Rattle.rules.proofs.first_no_right.Tie as tie
 

@@ -1,8 +1,8 @@
 -- `first_shut_out` meets its contract: the loop tests every number before it goes on, and answers the least person who has no first location. Assumes nothing.
 use Prim.Native.Nat.{_-_}
 use mathlib.Core.Bool.{false}
-use Rattle.rules.specs.Tests.{shutOut, firstShutOut}
-use Rattle.rules.proofs.Scans.{Scan, scans}
+use Rattle.tables.specs.Tests.{shutOut, firstShutOut}
+use Rattle.tables.proofs.Scans.{Scan, scans}
 use Rattle.rules.proofs.first_shut_out.Statement.{statement}
 use Rattle.rules.proofs.first_shut_out.Tie as tie
 

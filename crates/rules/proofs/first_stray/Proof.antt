@@ -1,8 +1,8 @@
 -- `first_stray` meets its contract: the loop tests every number before it goes on, and answers the least location from which exits never reach 0. Assumes nothing.
 use Prim.Native.Nat.{_-_}
 use mathlib.Core.Bool.{false}
-use Rattle.rules.specs.Tests.{strays, firstStray}
-use Rattle.rules.proofs.Scans.{Scan, scans}
+use Rattle.tables.specs.Tests.{strays, firstStray}
+use Rattle.tables.proofs.Scans.{Scan, scans}
 use Rattle.rules.proofs.first_stray.Statement.{statement}
 use Rattle.rules.proofs.first_stray.Tie as tie
 

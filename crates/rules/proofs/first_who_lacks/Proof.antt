@@ -1,9 +1,9 @@
 -- `first_who_lacks` meets its contract: the loop tests every number before it goes on, and answers the least person who breaks rule 9. Assumes nothing.
 use Prim.Native.Nat.{ℕ, _-_}
 use mathlib.Core.Bool.{false}
-use Rattle.rules.specs.Below.{someBelow}
-use Rattle.rules.specs.Tests.{lacksRight}
-use Rattle.rules.proofs.Scans.{Scan, scans}
+use Rattle.tables.specs.Below.{someBelow}
+use Rattle.tables.specs.Tests.{lacksRight}
+use Rattle.tables.proofs.Scans.{Scan, scans}
 use Rattle.rules.proofs.first_who_lacks.Statement.{statement}
 use Rattle.rules.proofs.first_who_lacks.Tie as tie
 

@@ -1,8 +1,8 @@
 -- `has_first` meets its contract: the loop tests every number before it goes on, and answers whether some door lets the person in. Assumes nothing.
 use Prim.Native.Nat.{_-_}
 use mathlib.Core.Bool.{false}
-use Rattle.rules.specs.Tests.{letsIn}
-use Rattle.rules.proofs.Scans.{Scan, scans}
+use Rattle.tables.specs.Tests.{letsIn}
+use Rattle.tables.proofs.Scans.{Scan, scans}
 use Rattle.rules.proofs.has_first.Statement.{statement}
 use Rattle.rules.proofs.has_first.Tie as tie
 

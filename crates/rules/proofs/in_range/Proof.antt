@@ -1,6 +1,6 @@
 -- `in_range` meets its contract: it asks one test after the other. Assumes nothing.
-use Rattle.rules.specs.Tests.{inRange}
-use Rattle.rules.proofs.Chain.{chain}
+use Rattle.tables.specs.Tests.{inRange}
+use Rattle.tables.proofs.Chain.{chain}
 use Rattle.rules.proofs.in_range.Statement.{statement}
 use Rattle.rules.proofs.in_range.Tie as tie
 

@@ -1,8 +1,8 @@
 -- `joined` meets its contract: the loop tests every number before it goes on, and answers whether some door joins the two. Assumes nothing.
 use Prim.Native.Nat.{_-_}
 use mathlib.Core.Bool.{false}
-use Rattle.rules.specs.Tests.{joins}
-use Rattle.rules.proofs.Scans.{Scan, scans}
+use Rattle.tables.specs.Tests.{joins}
+use Rattle.tables.proofs.Scans.{Scan, scans}
 use Rattle.rules.proofs.joined.Statement.{statement}
 use Rattle.rules.proofs.joined.Tie as tie
 

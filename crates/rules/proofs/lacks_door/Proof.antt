@@ -1,7 +1,7 @@
 -- `lacks_door` meets its contract: it asks one test after the other. Assumes nothing.
 use borrow.Author.Needs.{needs}
-use Rattle.rules.specs.Tests.{lacksDoor}
-use Rattle.rules.proofs.Chain.{chain}
+use Rattle.tables.specs.Tests.{lacksDoor}
+use Rattle.tables.proofs.Chain.{chain}
 use Rattle.rules.proofs.lacks_door.Statement.{statement}
 use Rattle.rules.proofs.lacks_door.Tie as tie
 
@@ -9,8 +9,8 @@ returns : tie.Need-returns
 unfolding lacksDoor
 returns c = search chain
 
-entry-requires : tie.Need-entry-requires
-entry-requires c κs = search needs
+byte-at-requires : tie.Need-byte-at-requires
+byte-at-requires c κs = search needs
 
 cast-to : tie.Need-cast-to
 cast-to c = search needs
@@ -20,7 +20,7 @@ joined-requires c κs = search needs
 
 returns-2 : tie.Need-returns-2
 unfolding lacksDoor
-returns-2 c = rw (← (c .before .entry .ensures), ← (c .joined .ensures)) (search chain)
+returns-2 c = rw (← (c .before .byte-at .ensures), ← (c .joined .ensures)) (search chain)
 
 pub lacks-door-spec : {M : Type 1} → statement M
-lacks-door-spec = tie.close (tie.spec returns entry-requires cast-to joined-requires returns-2)
+lacks-door-spec = tie.close (tie.spec returns byte-at-requires cast-to joined-requires returns-2)

@@ -4,8 +4,8 @@ use borrow.Author.Needs.{needs}
 use borrow.Author.Tests.{lt-ltb}
 use lib.ListN.{List·getD-eq-default}
 use native.Mathlib.Nat.{pos-of-ne-zero}
-use Rattle.rules.specs.Tables.{andAlso}
-use Rattle.rules.specs.Tests.{lacksExit}
+use Rattle.tables.specs.Tables.{andAlso}
+use Rattle.tables.specs.Tests.{lacksExit}
 use Rattle.rules.proofs.lacks_exit.Statement.{statement}
 use Rattle.rules.proofs.lacks_exit.Tie as tie
 

@@ -1,7 +1,7 @@
 -- `lawful` meets its contract: it asks one rule after the other. Assumes nothing.
 use borrow.Author.Needs.{needs}
-use Rattle.rules.specs.Tests.{lawfulB}
-use Rattle.rules.proofs.Chain.{chain}
+use Rattle.tables.specs.Tests.{lawfulB}
+use Rattle.tables.proofs.Chain.{chain}
 use Rattle.rules.proofs.lawful.Statement.{statement}
 use Rattle.rules.proofs.lawful.Tie as tie
 
@@ -20,7 +20,7 @@ is-nothing-requires c κs = search needs
 
 returns-2 : tie.Need-returns-2
 unfolding lawfulB
-returns-2 c = rw (← (c .before .before .first-stray .ensures)) (search chain)
+returns-2 c = search chain
 
 first-no-door-requires : tie.Need-first-no-door-requires
 first-no-door-requires c κs = search needs
@@ -30,7 +30,7 @@ is-nothing-requires-2 c κs = search needs
 
 returns-3 : tie.Need-returns-3
 unfolding lawfulB
-returns-3 c = rw (← (c .before .before .before .before .before .first-stray .ensures), ← (c .before .before .first-no-door .ensures)) (search chain)
+returns-3 c = search chain
 
 first-no-right-requires : tie.Need-first-no-right-requires
 first-no-right-requires c κs = search needs
@@ -40,7 +40,7 @@ no-pair-requires c κs = search needs
 
 returns-4 : tie.Need-returns-4
 unfolding lawfulB
-returns-4 c = rw (← (c .before .before .before .before .before .before .before .before .first-stray .ensures), ← (c .before .before .before .before .before .first-no-door .ensures), ← (c .before .before .first-no-right .ensures)) (search chain)
+returns-4 c = search chain
 
 first-shut-out-requires : tie.Need-first-shut-out-requires
 first-shut-out-requires c κs = search needs
@@ -50,7 +50,7 @@ is-nothing-requires-3 c κs = search needs
 
 returns-5 : tie.Need-returns-5
 unfolding lawfulB
-returns-5 c = rw (← (c .before .before .before .before .before .before .before .before .before .before .first-stray .ensures), ← (c .before .before .before .before .before .before .before .first-no-door .ensures), ← (c .before .before .before .before .first-no-right .ensures), ← (c .before .first-shut-out .ensures)) (search chain)
+returns-5 c = search chain
 
 pub lawful-spec : {M : Type 1} → statement M
 lawful-spec =

@@ -6,7 +6,7 @@ use native.Mathlib.Omega.{arith}
 use borrow.Author.Needs.{needs}
 use borrow.Author.Tests.{eq-eqb, ne-eqb, lt-ltb, le-ltb}
 use lib.ListN.{length, List·getD-eq-default}
-use Rattle.rules.specs.Tables.{mayBe, orElse, andAlso}
+use Rattle.tables.specs.Tables.{mayBe, orElse, andAlso}
 use Rattle.rules.proofs.may_be.Statement.{statement}
 use Rattle.rules.proofs.may_be.Tie as tie
 

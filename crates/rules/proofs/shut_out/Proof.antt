@@ -1,6 +1,6 @@
 -- `shut_out` meets its contract. Assumes nothing.
 use borrow.Author.Needs.{needs}
-use Rattle.rules.specs.Tests.{shutOut}
+use Rattle.tables.specs.Tests.{shutOut}
 use Rattle.rules.proofs.shut_out.Statement.{statement}
 use Rattle.rules.proofs.shut_out.Tie as tie
 

@@ -1,8 +1,8 @@
 -- `strays` meets its contract. Assumes nothing.
 use borrow.Author.Needs.{needs}
 use native.Mathlib.Omega.{arith}
-use Rattle.rules.specs.Way.{unvisited}
-use Rattle.rules.specs.Tests.{strays}
+use Rattle.tables.specs.Way.{unvisited}
+use Rattle.tables.specs.Tests.{strays}
 use Rattle.rules.proofs.strays.Statement.{statement}
 use Rattle.rules.proofs.strays.Tie as tie
 

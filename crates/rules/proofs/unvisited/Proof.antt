@@ -1,7 +1,7 @@
 -- `unvisited` meets its contract. Assumes nothing.
 use borrow.Author.Needs.{needs}
 use native.Mathlib.Omega.{arith}
-use Rattle.rules.specs.Way.{unvisited}
+use Rattle.tables.specs.Way.{unvisited}
 use Rattle.rules.proofs.unvisited.Statement.{statement}
 use Rattle.rules.proofs.unvisited.Tie as tie
 

@@ -4,8 +4,8 @@ use mathlib.Core.Path.{_≡_, _∙_}
 use borrow.Author.Needs.{needs}
 use native.Mathlib.Omega.{arith}
 use lib.ListN.{length}
-use Rattle.rules.specs.Way.{wayOf}
-use Rattle.rules.proofs.Ways as ways
+use Rattle.tables.specs.Way.{wayOf}
+use Rattle.tables.proofs.Ways as ways
 use Rattle.rules.proofs.way_out.Statement.{statement}
 use Rattle.rules.proofs.way_out.Tie as tie
 

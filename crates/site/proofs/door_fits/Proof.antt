@@ -1,8 +1,8 @@
 -- `site::door_fits` meets its contract: each return is decided by the tests before it.
 -- Assumes nothing.
 use borrow.Author.Tests.{lt-ltb, le-ltb, eq-eqb, ne-eqb}
-use Rattle.rules.specs.Tables.{andAlso}
-use Rattle.site.specs.Draft.{doorFits}
+use Rattle.tables.specs.Tables.{andAlso}
+use Rattle.says.specs.Draft.{doorFits}
 use Rattle.site.proofs.door_fits.Statement.{statement}
 use Rattle.site.proofs.door_fits.Tie as tie
 

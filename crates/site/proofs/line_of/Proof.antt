@@ -2,7 +2,7 @@
 -- Assumes nothing.
 use mathlib.Core.Path.{sym, _∙_}
 use borrow.Author.Tests.{eq-eqb, ne-eqb}
-use Rattle.site.specs.Line.{lineAt}
+use Rattle.says.specs.Line.{lineAt}
 use borrow.Author.Needs.{needs}
 use Rattle.site.proofs.line_of.Statement.{statement}
 use Rattle.site.proofs.line_of.Tie as tie

@@ -1,8 +1,8 @@
 -- `site::right_fits` meets its contract: each return is decided by the tests before it.
 -- Assumes nothing.
 use borrow.Author.Tests.{le-leb, lt-leb, lt-ltb, le-ltb}
-use Rattle.rules.specs.Tables.{andAlso}
-use Rattle.site.specs.Draft.{rightFits}
+use Rattle.tables.specs.Tables.{andAlso}
+use Rattle.says.specs.Draft.{rightFits}
 use Rattle.site.proofs.right_fits.Statement.{statement}
 use Rattle.site.proofs.right_fits.Tie as tie
 

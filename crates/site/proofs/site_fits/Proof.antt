@@ -1,8 +1,8 @@
 -- `site::site_fits` meets its contract: each return is decided by the tests before it.
 -- Assumes nothing.
 use borrow.Author.Tests.{le-leb, lt-leb}
-use Rattle.rules.specs.Tables.{andAlso}
-use Rattle.site.specs.Draft.{siteFits}
+use Rattle.tables.specs.Tables.{andAlso}
+use Rattle.says.specs.Draft.{siteFits}
 use Rattle.site.proofs.site_fits.Statement.{statement}
 use Rattle.site.proofs.site_fits.Tie as tie
 

@@ -1,7 +1,10 @@
 -- `exist` meets its contract: each return is decided by the tests before it. Assumes nothing.
+use mathlib.Core.List.{[], _∷_}
+use types.Run.{miss}
 use borrow.Author.Tests.{lt-ltb, le-ltb}
-use Rattle.rules.specs.Tables.{orElse, andAlso}
+use Rattle.tables.specs.Tables.{orElse, andAlso}
 use Rattle.record.specs.Steps.{exist}
+use Rattle.record.proofs.Deeds.{others-name-none}
 use borrow.Author.Needs.{needs}
 use Rattle.record.proofs.steps.exist.Statement.{statement}
 use Rattle.record.proofs.steps.exist.Tie as tie
@@ -10,16 +13,18 @@ returns : tie.Need-returns
 unfolding exist andAlso orElse
 returns c = λ t people doors. simp (doors, le-ltb _ _ (c .if1 .taken))
 
-names-person-requires : tie.Need-names-person-requires
-names-person-requires c κs = search needs
+enum-told : tie.Need-enum-told
+enum-told c = search needs
 
 returns-2 : tie.Need-returns-2
 unfolding exist andAlso orElse
-returns-2 c = λ t people doors. simp (doors, lt-ltb _ _ (c .before .before .if1 .left), ← (c .before .names-person .ensures), c .if2 .taken)
+returns-2 c =
+    λ t people doors.
+    simp (doors, lt-ltb _ _ (c .before .if1 .left), others-name-none (c .before .before .args .kind) (λ is. miss (1 ∷ 2 ∷ 3 ∷ 4 ∷ 5 ∷ 6 ∷ 7 ∷ 8 ∷ 9 ∷ 10 ∷ []) 0 tt (rw is at (c .match .keys2))))
 
 returns-3 : tie.Need-returns-3
 unfolding exist andAlso orElse
-returns-3 c = λ t people doors. simp (people, doors, lt-ltb _ _ (c .before .before .if1 .left), ← (c .before .names-person .ensures), c .if2 .left)
+returns-3 c = λ t people doors. simp (people, doors, lt-ltb _ _ (c .before .before .if1 .left), c .enum-told .given .1)
 
 pub exist-spec : {M : Type 1} → statement M
-exist-spec = tie.close (tie.spec returns names-person-requires returns-2 returns-3)
+exist-spec = tie.close (tie.spec returns enum-told returns-2 returns-3)

@@ -2,8 +2,8 @@
 use mathlib.Core.List.{[], _∷_}
 use native.Mathlib.Omega.{arith}
 use lib.ListN.{length-append}
-use Rattle.run.specs.Text.{decimal, cell}
-use Rattle.run.proofs.Writing.{wrote, one, then, five-digits}
+use Rattle.printed.specs.Text.{decimal, cell}
+use Rattle.printed.proofs.Writing.{wrote, one, then, five-digits}
 use borrow.Author.Needs.{needs}
 use Rattle.run.proofs.print.put_cell.Statement.{statement}
 use Rattle.run.proofs.print.put_cell.Tie as tie

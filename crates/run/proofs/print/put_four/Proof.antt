@@ -1,9 +1,9 @@
 -- `put_four` meets its contract: two numbers with their commas, then the last two. Assumes nothing.
 use native.Mathlib.Omega.{arith}
 use mathlib.Core.List.{[], _∷_}
-use Rattle.sheet.specs.Grammar.{comma}
-use Rattle.run.specs.Text.{cell, rowText}
-use Rattle.run.proofs.Writing.{wrote, then}
+use Rattle.grammar.specs.Grammar.{comma}
+use Rattle.printed.specs.Text.{cell, rowText}
+use Rattle.printed.proofs.Writing.{wrote, then}
 use borrow.Author.Needs.{needs}
 use Rattle.run.proofs.print.put_four.Statement.{statement}
 use Rattle.run.proofs.print.put_four.Tie as tie

@@ -1,8 +1,8 @@
 -- `put_last` meets its contract: the number, then CR and LF. Assumes nothing.
 use native.Mathlib.Omega.{arith}
-use Rattle.sheet.specs.Grammar.{cr}
-use Rattle.run.specs.Text.{cell, rowText}
-use Rattle.run.proofs.Writing.{wrote, one, then}
+use Rattle.grammar.specs.Grammar.{cr}
+use Rattle.printed.specs.Text.{cell, rowText}
+use Rattle.printed.proofs.Writing.{wrote, one, then}
 use borrow.Author.Needs.{needs}
 use Rattle.run.proofs.print.put_last.Statement.{statement}
 use Rattle.run.proofs.print.put_last.Tie as tie

@@ -1,9 +1,9 @@
 -- `put_pair` meets its contract: a number and its comma, then the last number. Assumes nothing.
 use native.Mathlib.Omega.{arith}
 use mathlib.Core.List.{[]}
-use Rattle.sheet.specs.Grammar.{comma}
-use Rattle.run.specs.Text.{cell, rowText}
-use Rattle.run.proofs.Writing.{wrote, then}
+use Rattle.grammar.specs.Grammar.{comma}
+use Rattle.printed.specs.Text.{cell, rowText}
+use Rattle.printed.proofs.Writing.{wrote, then}
 use borrow.Author.Needs.{needs}
 use Rattle.run.proofs.print.put_pair.Statement.{statement}
 use Rattle.run.proofs.print.put_pair.Tie as tie

@@ -1,6 +1,6 @@
 -- `kind_of` meets its contract: the words are tried in their order. Assumes nothing.
 use mathlib.Core.Path.{sym, _∙_}
-use Rattle.run.specs.Steps.{kindAt, placeAmong}
+use Rattle.printed.specs.Steps.{kindAt, placeAmong}
 use borrow.Author.Needs.{needs}
 use Rattle.run.proofs.steps.kind_of.Statement.{statement}
 use Rattle.run.proofs.steps.kind_of.Tie as tie
@@ -35,79 +35,12 @@ returns-3 : tie.Need-returns-3
 unfolding kindAt placeAmong
 returns-3 c = rw (sym (c .before .before .before .before .before .before .before .is-word .ensures) ∙ c .before .before .before .before .before .before .if1 .left, sym (c .before .before .before .before .is-word2 .ensures) ∙ c .before .before .before .if2 .left, sym (c .before .is-word3 .ensures) ∙ c .if3 .taken)
 
-slice-aggregate-is-word-4 : tie.Need-slice-aggregate-is-word-4
-slice-aggregate-is-word-4 c = search needs
-
-is-word-requires-4 : tie.Need-is-word-requires-4
-is-word-requires-4 c κs = search needs
+kind-from-red-requires : tie.Need-kind-from-red-requires
+kind-from-red-requires c κs = search needs
 
 returns-4 : tie.Need-returns-4
 unfolding kindAt placeAmong
-returns-4 c = rw (sym (c .before .before .before .before .before .before .before .before .before .before .is-word .ensures) ∙ c .before .before .before .before .before .before .before .before .before .if1 .left, sym (c .before .before .before .before .before .before .before .is-word2 .ensures) ∙ c .before .before .before .before .before .before .if2 .left, sym (c .before .before .before .before .is-word3 .ensures) ∙ c .before .before .before .if3 .left, sym (c .before .is-word4 .ensures) ∙ c .if4 .taken)
-
-slice-aggregate-is-word-5 : tie.Need-slice-aggregate-is-word-5
-slice-aggregate-is-word-5 c = search needs
-
-is-word-requires-5 : tie.Need-is-word-requires-5
-is-word-requires-5 c κs = search needs
-
-returns-5 : tie.Need-returns-5
-unfolding kindAt placeAmong
-returns-5 c = rw (sym (c .before .before .before .before .before .before .before .before .before .before .before .before .before .is-word .ensures) ∙ c .before .before .before .before .before .before .before .before .before .before .before .before .if1 .left, sym (c .before .before .before .before .before .before .before .before .before .before .is-word2 .ensures) ∙ c .before .before .before .before .before .before .before .before .before .if2 .left, sym (c .before .before .before .before .before .before .before .is-word3 .ensures) ∙ c .before .before .before .before .before .before .if3 .left, sym (c .before .before .before .before .is-word4 .ensures) ∙ c .before .before .before .if4 .left, sym (c .before .is-word5 .ensures) ∙ c .if5 .taken)
-
-slice-aggregate-is-word-6 : tie.Need-slice-aggregate-is-word-6
-slice-aggregate-is-word-6 c = search needs
-
-is-word-requires-6 : tie.Need-is-word-requires-6
-is-word-requires-6 c κs = search needs
-
-returns-6 : tie.Need-returns-6
-unfolding kindAt placeAmong
-returns-6 c = rw (sym (c .before .before .before .before .before .before .before .before .before .before .before .before .before .before .before .before .is-word .ensures) ∙ c .before .before .before .before .before .before .before .before .before .before .before .before .before .before .before .if1 .left, sym (c .before .before .before .before .before .before .before .before .before .before .before .before .before .is-word2 .ensures) ∙ c .before .before .before .before .before .before .before .before .before .before .before .before .if2 .left, sym (c .before .before .before .before .before .before .before .before .before .before .is-word3 .ensures) ∙ c .before .before .before .before .before .before .before .before .before .if3 .left, sym (c .before .before .before .before .before .before .before .is-word4 .ensures) ∙ c .before .before .before .before .before .before .if4 .left, sym (c .before .before .before .before .is-word5 .ensures) ∙ c .before .before .before .if5 .left, sym (c .before .is-word6 .ensures) ∙ c .if6 .taken)
-
-slice-aggregate-is-word-7 : tie.Need-slice-aggregate-is-word-7
-slice-aggregate-is-word-7 c = search needs
-
-is-word-requires-7 : tie.Need-is-word-requires-7
-is-word-requires-7 c κs = search needs
-
-returns-7 : tie.Need-returns-7
-unfolding kindAt placeAmong
-returns-7 c = rw (sym (c .before .before .before .before .before .before .before .before .before .before .before .before .before .before .before .before .before .before .before .is-word .ensures) ∙ c .before .before .before .before .before .before .before .before .before .before .before .before .before .before .before .before .before .before .if1 .left, sym (c .before .before .before .before .before .before .before .before .before .before .before .before .before .before .before .before .is-word2 .ensures) ∙ c .before .before .before .before .before .before .before .before .before .before .before .before .before .before .before .if2 .left, sym (c .before .before .before .before .before .before .before .before .before .before .before .before .before .is-word3 .ensures) ∙ c .before .before .before .before .before .before .before .before .before .before .before .before .if3 .left, sym (c .before .before .before .before .before .before .before .before .before .before .is-word4 .ensures) ∙ c .before .before .before .before .before .before .before .before .before .if4 .left, sym (c .before .before .before .before .before .before .before .is-word5 .ensures) ∙ c .before .before .before .before .before .before .if5 .left, sym (c .before .before .before .before .is-word6 .ensures) ∙ c .before .before .before .if6 .left, sym (c .before .is-word7 .ensures) ∙ c .if7 .taken)
-
-slice-aggregate-is-word-8 : tie.Need-slice-aggregate-is-word-8
-slice-aggregate-is-word-8 c = search needs
-
-is-word-requires-8 : tie.Need-is-word-requires-8
-is-word-requires-8 c κs = search needs
-
-returns-8 : tie.Need-returns-8
-unfolding kindAt placeAmong
-returns-8 c = rw (sym (c .before .before .before .before .before .before .before .before .before .before .before .before .before .before .before .before .before .before .before .before .before .before .is-word .ensures) ∙ c .before .before .before .before .before .before .before .before .before .before .before .before .before .before .before .before .before .before .before .before .before .if1 .left, sym (c .before .before .before .before .before .before .before .before .before .before .before .before .before .before .before .before .before .before .before .is-word2 .ensures) ∙ c .before .before .before .before .before .before .before .before .before .before .before .before .before .before .before .before .before .before .if2 .left, sym (c .before .before .before .before .before .before .before .before .before .before .before .before .before .before .before .before .is-word3 .ensures) ∙ c .before .before .before .before .before .before .before .before .before .before .before .before .before .before .before .if3 .left, sym (c .before .before .before .before .before .before .before .before .before .before .before .before .before .is-word4 .ensures) ∙ c .before .before .before .before .before .before .before .before .before .before .before .before .if4 .left, sym (c .before .before .before .before .before .before .before .before .before .before .is-word5 .ensures) ∙ c .before .before .before .before .before .before .before .before .before .if5 .left, sym (c .before .before .before .before .before .before .before .is-word6 .ensures) ∙ c .before .before .before .before .before .before .if6 .left, sym (c .before .before .before .before .is-word7 .ensures) ∙ c .before .before .before .if7 .left, sym (c .before .is-word8 .ensures) ∙ c .if8 .taken)
-
-slice-aggregate-is-word-9 : tie.Need-slice-aggregate-is-word-9
-slice-aggregate-is-word-9 c = search needs
-
-is-word-requires-9 : tie.Need-is-word-requires-9
-is-word-requires-9 c κs = search needs
-
-returns-9 : tie.Need-returns-9
-unfolding kindAt placeAmong
-returns-9 c = rw (sym (c .before .before .before .before .before .before .before .before .before .before .before .before .before .before .before .before .before .before .before .before .before .before .before .before .before .is-word .ensures) ∙ c .before .before .before .before .before .before .before .before .before .before .before .before .before .before .before .before .before .before .before .before .before .before .before .before .if1 .left, sym (c .before .before .before .before .before .before .before .before .before .before .before .before .before .before .before .before .before .before .before .before .before .before .is-word2 .ensures) ∙ c .before .before .before .before .before .before .before .before .before .before .before .before .before .before .before .before .before .before .before .before .before .if2 .left, sym (c .before .before .before .before .before .before .before .before .before .before .before .before .before .before .before .before .before .before .before .is-word3 .ensures) ∙ c .before .before .before .before .before .before .before .before .before .before .before .before .before .before .before .before .before .before .if3 .left, sym (c .before .before .before .before .before .before .before .before .before .before .before .before .before .before .before .before .is-word4 .ensures) ∙ c .before .before .before .before .before .before .before .before .before .before .before .before .before .before .before .if4 .left, sym (c .before .before .before .before .before .before .before .before .before .before .before .before .before .is-word5 .ensures) ∙ c .before .before .before .before .before .before .before .before .before .before .before .before .if5 .left, sym (c .before .before .before .before .before .before .before .before .before .before .is-word6 .ensures) ∙ c .before .before .before .before .before .before .before .before .before .if6 .left, sym (c .before .before .before .before .before .before .before .is-word7 .ensures) ∙ c .before .before .before .before .before .before .if7 .left, sym (c .before .before .before .before .is-word8 .ensures) ∙ c .before .before .before .if8 .left, sym (c .before .is-word9 .ensures) ∙ c .if9 .taken)
-
-slice-aggregate-is-word-10 : tie.Need-slice-aggregate-is-word-10
-slice-aggregate-is-word-10 c = search needs
-
-is-word-requires-10 : tie.Need-is-word-requires-10
-is-word-requires-10 c κs = search needs
-
-returns-10 : tie.Need-returns-10
-unfolding kindAt placeAmong
-returns-10 c = rw (sym (c .before .before .before .before .before .before .before .before .before .before .before .before .before .before .before .before .before .before .before .before .before .before .before .before .before .before .before .before .is-word .ensures) ∙ c .before .before .before .before .before .before .before .before .before .before .before .before .before .before .before .before .before .before .before .before .before .before .before .before .before .before .before .if1 .left, sym (c .before .before .before .before .before .before .before .before .before .before .before .before .before .before .before .before .before .before .before .before .before .before .before .before .before .is-word2 .ensures) ∙ c .before .before .before .before .before .before .before .before .before .before .before .before .before .before .before .before .before .before .before .before .before .before .before .before .if2 .left, sym (c .before .before .before .before .before .before .before .before .before .before .before .before .before .before .before .before .before .before .before .before .before .before .is-word3 .ensures) ∙ c .before .before .before .before .before .before .before .before .before .before .before .before .before .before .before .before .before .before .before .before .before .if3 .left, sym (c .before .before .before .before .before .before .before .before .before .before .before .before .before .before .before .before .before .before .before .is-word4 .ensures) ∙ c .before .before .before .before .before .before .before .before .before .before .before .before .before .before .before .before .before .before .if4 .left, sym (c .before .before .before .before .before .before .before .before .before .before .before .before .before .before .before .before .is-word5 .ensures) ∙ c .before .before .before .before .before .before .before .before .before .before .before .before .before .before .before .if5 .left, sym (c .before .before .before .before .before .before .before .before .before .before .before .before .before .is-word6 .ensures) ∙ c .before .before .before .before .before .before .before .before .before .before .before .before .if6 .left, sym (c .before .before .before .before .before .before .before .before .before .before .is-word7 .ensures) ∙ c .before .before .before .before .before .before .before .before .before .if7 .left, sym (c .before .before .before .before .before .before .before .is-word8 .ensures) ∙ c .before .before .before .before .before .before .if8 .left, sym (c .before .before .before .before .is-word9 .ensures) ∙ c .before .before .before .if9 .left, sym (c .before .is-word10 .ensures) ∙ c .if10 .taken)
-
-returns-11 : tie.Need-returns-11
-unfolding kindAt placeAmong
-returns-11 c = rw (sym (c .before .before .before .before .before .before .before .before .before .before .before .before .before .before .before .before .before .before .before .before .before .before .before .before .before .before .before .before .is-word .ensures) ∙ c .before .before .before .before .before .before .before .before .before .before .before .before .before .before .before .before .before .before .before .before .before .before .before .before .before .before .before .if1 .left, sym (c .before .before .before .before .before .before .before .before .before .before .before .before .before .before .before .before .before .before .before .before .before .before .before .before .before .is-word2 .ensures) ∙ c .before .before .before .before .before .before .before .before .before .before .before .before .before .before .before .before .before .before .before .before .before .before .before .before .if2 .left, sym (c .before .before .before .before .before .before .before .before .before .before .before .before .before .before .before .before .before .before .before .before .before .before .is-word3 .ensures) ∙ c .before .before .before .before .before .before .before .before .before .before .before .before .before .before .before .before .before .before .before .before .before .if3 .left, sym (c .before .before .before .before .before .before .before .before .before .before .before .before .before .before .before .before .before .before .before .is-word4 .ensures) ∙ c .before .before .before .before .before .before .before .before .before .before .before .before .before .before .before .before .before .before .if4 .left, sym (c .before .before .before .before .before .before .before .before .before .before .before .before .before .before .before .before .is-word5 .ensures) ∙ c .before .before .before .before .before .before .before .before .before .before .before .before .before .before .before .if5 .left, sym (c .before .before .before .before .before .before .before .before .before .before .before .before .before .is-word6 .ensures) ∙ c .before .before .before .before .before .before .before .before .before .before .before .before .if6 .left, sym (c .before .before .before .before .before .before .before .before .before .before .is-word7 .ensures) ∙ c .before .before .before .before .before .before .before .before .before .if7 .left, sym (c .before .before .before .before .before .before .before .is-word8 .ensures) ∙ c .before .before .before .before .before .before .if8 .left, sym (c .before .before .before .before .is-word9 .ensures) ∙ c .before .before .before .if9 .left, sym (c .before .is-word10 .ensures) ∙ c .if10 .left)
+returns-4 c = rw (sym (c .before .before .before .before .before .before .before .before .is-word .ensures) ∙ c .before .before .before .before .before .before .before .if1 .left, sym (c .before .before .before .before .before .is-word2 .ensures) ∙ c .before .before .before .before .if2 .left, sym (c .before .before .is-word3 .ensures) ∙ c .before .if3 .left) (c .kind-from-red .ensures)
 
 pub kind-of-spec : {M : Type 1} → statement M
 kind-of-spec =
@@ -122,25 +55,5 @@ kind-of-spec =
     slice-aggregate-is-word-3
     is-word-requires-3
     returns-3
-    slice-aggregate-is-word-4
-    is-word-requires-4
-    returns-4
-    slice-aggregate-is-word-5
-    is-word-requires-5
-    returns-5
-    slice-aggregate-is-word-6
-    is-word-requires-6
-    returns-6
-    slice-aggregate-is-word-7
-    is-word-requires-7
-    returns-7
-    slice-aggregate-is-word-8
-    is-word-requires-8
-    returns-8
-    slice-aggregate-is-word-9
-    is-word-requires-9
-    returns-9
-    slice-aggregate-is-word-10
-    is-word-requires-10
-    returns-10
-    returns-11)
+    kind-from-red-requires
+    returns-4)

@@ -2,9 +2,9 @@
 use mathlib.Core.Path.{sym, _∙_}
 use native.Mathlib.Omega.{arith}
 use borrow.Author.Tests.{eq-eqb, ne-eqb}
-use Rattle.run.specs.Steps.{lineAt}
-use Rattle.sheet.proofs.Saying.{number-small}
-use Rattle.run.proofs.Decoding.{person-small}
+use Rattle.printed.specs.Steps.{lineAt}
+use Rattle.grammar.proofs.Saying.{number-small}
+use Rattle.printed.proofs.Decoding.{person-small}
 use borrow.Author.Needs.{needs}
 use Rattle.run.proofs.steps.line_of.Statement.{statement}
 use Rattle.run.proofs.steps.line_of.Tie as tie

@@ -3,11 +3,11 @@ use mathlib.Core.Path.{_≡_, sym, ap, _∙_}
 use native.Mathlib.Omega.{arith}
 use lib.ListN.{length, take}
 use lib.Seq.{length-take-le}
-use Rattle.sheet.specs.Rows.{rowsFrom}
+use Rattle.grammar.specs.Rows.{rowsFrom}
 use Rattle.record.specs.Run.{toldOf, answerTold, phaseTold, reasonTold}
-use Rattle.run.specs.declared.serve.Served.{Served}
-use Rattle.run.specs.Steps.{stepsFrom, rowsIn}
-use Rattle.run.proofs.Serving.{steps-even, steps-told, front-of}
+use Rattle.printed.specs.declared.serve.Served.{Served}
+use Rattle.printed.specs.Steps.{stepsFrom, rowsIn}
+use Rattle.printed.proofs.Serving.{steps-even, steps-told, front-of}
 use borrow.Author.Needs.{needs}
 use Rattle.run.proofs.text.print_steps.Statement.{statement}
 use Rattle.run.proofs.text.print_steps.Tie as tie

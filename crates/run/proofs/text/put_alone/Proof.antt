@@ -2,9 +2,9 @@
 use mathlib.Core.Path.{_∙_}
 use mathlib.Core.List.{[], _∷_}
 use native.Mathlib.Nat.{zero-add}
-use Rattle.run.specs.Text.{rowText}
-use Rattle.run.specs.Printed.{panelHeader, aloneText}
-use Rattle.run.proofs.Writing.{wrote, then}
+use Rattle.printed.specs.Text.{rowText}
+use Rattle.printed.specs.Printed.{panelHeader, aloneText}
+use Rattle.printed.proofs.Writing.{wrote, then}
 use borrow.Author.Needs.{needs}
 use Rattle.run.proofs.text.put_alone.Statement.{statement}
 use Rattle.run.proofs.text.put_alone.Tie as tie

@@ -7,10 +7,10 @@ use native.Mathlib.Nat.{zero-add}
 use borrow.Author.Needs.{needs}
 use lib.ListN.{length}
 use lib.Seq.{length-sets}
-use Rattle.run.specs.Text.{rowText}
-use Rattle.run.specs.Printed.{whereHeader, placesText}
-use Rattle.run.proofs.Writing.{wrote, then, said, pair-width}
-use Rattle.run.proofs.Fitting.{Placing, place-start, place-more, place-end}
+use Rattle.printed.specs.Text.{rowText}
+use Rattle.printed.specs.Printed.{whereHeader, placesText}
+use Rattle.printed.proofs.Writing.{wrote, then, said, pair-width}
+use Rattle.printed.proofs.Fitting.{Placing, place-start, place-more, place-end}
 use Rattle.run.proofs.text.put_places.Statement.{statement}
 use Rattle.run.proofs.text.put_places.Tie as tie
 

@@ -4,8 +4,8 @@ use Prim.Native.Nat.{_-_}
 use mathlib.Core.Path.{sym, _∙_}
 use native.Mathlib.Omega.{arith}
 use lib.ListN.{length}
-use Rattle.sheet.specs.Rows.{countFrom}
-use Rattle.sheet.proofs.Reading.{CountSoFar, count-start, count-turn, count-more, cut-there}
+use Rattle.grammar.specs.Rows.{countFrom}
+use Rattle.grammar.proofs.Reading.{CountSoFar, count-start, count-turn, count-more, cut-there}
 use borrow.Author.Needs.{needs}
 use Rattle.sheet.proofs.count.count_rows.Statement.{statement}
 use Rattle.sheet.proofs.count.count_rows.Tie as tie

@@ -1,6 +1,6 @@
 use borrow.Author.Needs.{needs}
 use borrow.Author.Tests.{eq-eqb, ne-eqb}
-use Rattle.sheet.specs.Cut.{moveOf}
+use Rattle.grammar.specs.Cut.{moveOf}
 use Rattle.sheet.proofs.cut.advance.Statement.{statement}
 use Rattle.sheet.proofs.cut.advance.Tie as tie
 use Rattle.sheet.proofs.cut.advance.Reads as reads

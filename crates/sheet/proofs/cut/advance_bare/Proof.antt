@@ -1,6 +1,6 @@
 use borrow.Author.Needs.{needs}
 use borrow.Author.Tests.{ne-eqb}
-use Rattle.sheet.specs.Cut.{bareMove}
+use Rattle.grammar.specs.Cut.{bareMove}
 use Rattle.sheet.proofs.cut.advance_bare.Statement.{statement}
 use Rattle.sheet.proofs.cut.advance_bare.Tie as tie
 use Rattle.sheet.proofs.cut.advance_bare.Reads as reads

@@ -1,6 +1,6 @@
 use borrow.Author.Needs.{needs}
 use borrow.Author.Tests.{eq-eqb, ne-eqb}
-use Rattle.sheet.specs.Cut.{shutMove}
+use Rattle.grammar.specs.Cut.{shutMove}
 use Rattle.sheet.proofs.cut.advance_shut.Statement.{statement}
 use Rattle.sheet.proofs.cut.advance_shut.Tie as tie
 use Rattle.sheet.proofs.cut.advance_shut.Reads as reads

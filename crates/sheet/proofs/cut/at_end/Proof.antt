@@ -1,6 +1,6 @@
 -- `sheet::cut::at_end` meets its contract: the mode decides.
 -- Assumes nothing.
-use Rattle.sheet.specs.Cut.{endOf}
+use Rattle.grammar.specs.Cut.{endOf}
 use borrow.Author.Needs.{needs}
 use Rattle.sheet.proofs.cut.at_end.Statement.{statement}
 use Rattle.sheet.proofs.cut.at_end.Tie as tie

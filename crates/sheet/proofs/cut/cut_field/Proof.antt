@@ -1,11 +1,11 @@
 use mathlib.Core.Path.{sym, _∙_}
-use Rattle.sheet.proofs.Steps.{field-turn, field-end}
+use Rattle.grammar.proofs.Steps.{field-turn, field-end}
 -- `sheet::cut::cut_field` meets its contract. The invariant of its loop: the answer from byte i on is the answer from the start.
 -- Assumes nothing.
 use Prim.Native.Nat.{_-_}
 use mathlib.Core.Path.{_≡_}
 use lib.ListN.{length, drop}
-use Rattle.sheet.specs.Cut.{cutField, fieldFrom}
+use Rattle.grammar.specs.Cut.{cutField, fieldFrom}
 use borrow.Author.Needs.{needs}
 use Rattle.sheet.proofs.cut.cut_field.Statement.{statement}
 use Rattle.sheet.proofs.cut.cut_field.Tie as tie

@@ -1,7 +1,7 @@
 -- `sheet::cut::push` meets its contract: the count decides which place the cell takes.
 -- Assumes nothing.
 use borrow.Author.Tests.{ne-eqb}
-use Rattle.sheet.specs.Cut.{pushed}
+use Rattle.grammar.specs.Cut.{pushed}
 use borrow.Author.Needs.{needs}
 use Rattle.sheet.proofs.cut.push.Statement.{statement}
 use Rattle.sheet.proofs.cut.push.Tie as tie

@@ -2,7 +2,7 @@
 -- Assumes nothing.
 use mathlib.Core.Path.{sym, _∙_}
 use borrow.Author.Needs.{needs}
-use Rattle.sheet.specs.Reader.{past}
+use Rattle.grammar.specs.Past.{past}
 use Rattle.sheet.proofs.reader.behind_row.Statement.{statement}
 use Rattle.sheet.proofs.reader.behind_row.Tie as tie
 

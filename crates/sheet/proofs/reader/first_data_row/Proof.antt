@@ -36,15 +36,16 @@ use denote.Triple.Table.{entered, cited}
 use denote.Triple.Walked.{says, Stays, stay-none-slice, walkOf, goes-none-slice, Walks, ends-at, walked, walk-meets}
 use denote.Exit.{yes}
 use denote.Triple.Clauses.{ensured, lasts}
-use Rattle.sheet.specs.Cut.{cutRow}
-use Rattle.sheet.specs.Reader.{firstDataRow, readerAt, movedOn}
+use Rattle.grammar.specs.Cut.{cutRow}
+use Rattle.grammar.specs.Past.{firstDataRow}
+use Rattle.sheet.specs.Reader.{readerAt, movedOn}
 use Rattle.sheet.specs.declared.reader.Reader.{Reader}
-use Rattle.sheet.specs.declared.cut.RowCut.{RowCut}
+use Rattle.grammar.specs.declared.cut.RowCut.{RowCut}
 use Rattle.sheet.proofs.Held.{Row}
 use Rattle.sheet.proofs.reader.Reader as T
 use Rattle.sheet.proofs.reader.Reader.Laws as T′
-use Rattle.sheet.proofs.cut.RowCut as S
-use Rattle.sheet.proofs.cut.RowCut.Laws as S′
+use Rattle.grammar.proofs.cut.RowCut as S
+use Rattle.grammar.proofs.cut.RowCut.Laws as S′
 use Rattle.sheet.proofs.reader.Reader.new as new
 use Rattle.sheet.proofs.reader.Reader.new.Symbol as new-def
 use Rattle.sheet.proofs.reader.Reader.new.Symbol.{name as #new}

@@ -1,7 +1,7 @@
 -- `sheet::say::content` meets its contract: the two tests decide.
 -- Assumes nothing.
 use borrow.Author.Tests.{le-leb, lt-leb}
-use Rattle.sheet.specs.Say.{contentAt}
+use Rattle.grammar.specs.Say.{contentAt}
 use borrow.Author.Needs.{needs}
 use Rattle.sheet.proofs.say.content.Statement.{statement}
 use Rattle.sheet.proofs.say.content.Tie as tie

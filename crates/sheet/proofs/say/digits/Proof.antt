@@ -5,7 +5,7 @@ use mathlib.Core.Path.{sym, _∙_}
 use native.Mathlib.Omega.{arith}
 use lib.ListN.{length}
 use borrow.Author.Tests.{lt-ltb, le-ltb}
-use Rattle.sheet.proofs.Saying.{DigitsSoFar, digits-start, digits-turn, digits-more, digits-end, digits-limit}
+use Rattle.grammar.proofs.Saying.{DigitsSoFar, digits-start, digits-turn, digits-more, digits-end, digits-limit}
 use borrow.Author.Needs.{needs}
 use Rattle.sheet.proofs.say.digits.Statement.{statement}
 use Rattle.sheet.proofs.say.digits.Tie as tie

@@ -1,6 +1,6 @@
 -- `sheet::say::is_word` meets its contract.
 -- Assumes nothing.
-use Rattle.sheet.specs.Say.{isWord}
+use Rattle.grammar.specs.Say.{isWord}
 use borrow.Author.Needs.{needs}
 use Rattle.sheet.proofs.say.is_word.Statement.{statement}
 use Rattle.sheet.proofs.say.is_word.Tie as tie

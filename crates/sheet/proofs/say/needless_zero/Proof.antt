@@ -1,7 +1,7 @@
 -- `sheet::say::needless_zero` meets its contract.
 -- Assumes nothing.
 use borrow.Author.Tests.{lt-ltb, le-ltb}
-use Rattle.sheet.specs.Say.{needlessZero}
+use Rattle.grammar.specs.Say.{needlessZero}
 use borrow.Author.Needs.{needs}
 use Rattle.sheet.proofs.say.needless_zero.Statement.{statement}
 use Rattle.sheet.proofs.say.needless_zero.Tie as tie

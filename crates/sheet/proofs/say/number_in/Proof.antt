@@ -1,7 +1,7 @@
 -- `sheet::say::number_in` meets its contract: its tests are those of `numberOf`, in their order.
 -- Assumes nothing.
 use borrow.Author.Tests.{eq-eqb, ne-eqb, lt-ltb, le-ltb}
-use Rattle.sheet.specs.Say.{numberOf}
+use Rattle.grammar.specs.Say.{numberOf}
 use borrow.Author.Needs.{needs}
 use Rattle.sheet.proofs.say.number_in.Statement.{statement}
 use Rattle.sheet.proofs.say.number_in.Tie as tie

@@ -1,6 +1,6 @@
 -- `sheet::say::number_of` meets its contract.
 -- Assumes nothing.
-use Rattle.sheet.specs.Say.{numberAt}
+use Rattle.grammar.specs.Say.{numberAt}
 use borrow.Author.Needs.{needs}
 use Rattle.sheet.proofs.say.number_of.Statement.{statement}
 use Rattle.sheet.proofs.say.number_of.Tie as tie

@@ -5,12 +5,12 @@ use mathlib.Core.Path.{sym, ap, _∙_}
 use native.Mathlib.Omega.{arith}
 use lib.ListN.{length}
 use borrow.Author.Tests.{not-true, not-false}
-use Rattle.sheet.proofs.Reading.{cut-there}
-use Rattle.site.specs.Draft.{takeLine}
-use Rattle.site.specs.Lent.{noCounts, draftOf}
-use Rattle.site.specs.Site.{linesIn, readLines}
-use Rattle.site.proofs.Bounds.{bounded-blank}
-use Rattle.site.proofs.Loop.{ReadSoFar, read-start, read-turn, read-stop, read-more}
+use Rattle.grammar.proofs.Reading.{cut-there}
+use Rattle.says.specs.Draft.{takeLine}
+use Rattle.says.specs.Lent.{noCounts, draftOf}
+use Rattle.says.specs.Site.{linesIn, readLines}
+use Rattle.says.proofs.Bounds.{bounded-blank}
+use Rattle.says.proofs.Loop.{ReadSoFar, read-start, read-turn, read-stop, read-more}
 use borrow.Author.Needs.{needs}
 use Rattle.site.proofs.read.take_rows.Statement.{statement}
 use Rattle.site.proofs.read.take_rows.Tie as tie

@@ -4,7 +4,7 @@ use Rattle.record.proofs.record.Record.fresh.Statement.{statement}
 use Rattle.record.proofs.record.Record.fresh.Tie as tie
 use Rattle.record.proofs.record.Record.fresh.Reads as reads
 use Rattle.record.proofs.record.Record.fresh.Lts as lts
-use Rattle.record.proofs.record.Door.free.Reads as free-reads
+use Rattle.door.proofs.Door.free.Reads as free-reads
 
 -- src/record.rt:59:13
 free-requires : tie.Need-free-requires

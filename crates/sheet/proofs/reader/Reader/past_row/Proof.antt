@@ -35,7 +35,8 @@ use denote.Triple.Table.{entered, cited}
 use denote.Triple.Walked.{says, Stays, stay-none, walkOf, goes-none, Walks, ends-at, walked, walk-meets}
 use denote.Exit.{yes}
 use denote.Triple.Clauses.{ensured, lasts}
-use Rattle.sheet.specs.Reader.{pastRow, readerAt}
+use Rattle.grammar.specs.Past.{pastRow}
+use Rattle.sheet.specs.Reader.{readerAt}
 use Rattle.sheet.specs.declared.reader.Reader.{Reader}
 use Rattle.sheet.proofs.Held.{Row, Type-of, laws-of, fields, Own, twice, apart, moves}
 use Rattle.sheet.proofs.reader.Reader.Laws as T′

@@ -31,13 +31,13 @@ use denote.Triple.Table.{entered, cited}
 use denote.Triple.Walked.{says, Stays, stay-none, walkOf, goes-none, Walks, ends-at, walked, walk-meets}
 use denote.Exit.{yes}
 use denote.Triple.Clauses.{ensured, lasts}
-use Rattle.sheet.specs.Cut.{cutRow}
+use Rattle.grammar.specs.Cut.{cutRow}
 use Rattle.sheet.specs.declared.reader.Reader.{Reader}
-use Rattle.sheet.specs.declared.cut.RowCut.{RowCut}
+use Rattle.grammar.specs.declared.cut.RowCut.{RowCut}
 use Rattle.sheet.proofs.Held.{Row, Type-of, laws-of, fields, Own, apart}
 use Rattle.sheet.proofs.reader.Reader.Laws as T′
-use Rattle.sheet.proofs.cut.RowCut as S
-use Rattle.sheet.proofs.cut.RowCut.Laws as S′
+use Rattle.grammar.proofs.cut.RowCut as S
+use Rattle.grammar.proofs.cut.RowCut.Laws as S′
 use Rattle.sheet.proofs.cut.cut_row as cut
 use Rattle.sheet.proofs.cut.cut_row.Symbol as cut-def
 use Rattle.sheet.proofs.cut.cut_row.Symbol.{name as #cut-row}

@@ -1,0 +1,51 @@
+-- `Door::fits` meets its contract: each return is decided by the tests before it. Assumes nothing.
+use borrow.Author.Tests.{le-leb, lt-leb, not-true, not-false}
+use Rattle.tables.specs.Tables.{andAlso}
+use Rattle.door.specs.Fits.{fieldsFit}
+use borrow.Author.Needs.{needs}
+use Rattle.door.proofs.Door.fits.Statement.{statement}
+use Rattle.door.proofs.Door.fits.Tie as tie
+
+returns : tie.Need-returns
+unfolding fieldsFit andAlso
+returns c = simp (lt-leb _ _ (c .if1 .taken))
+
+cast-holder-fits : tie.Need-cast-holder-fits
+cast-holder-fits c = search needs
+
+holder-fits-requires : tie.Need-holder-fits-requires
+holder-fits-requires c κs = search needs
+
+returns-2 : tie.Need-returns-2
+unfolding fieldsFit andAlso
+returns-2 c =
+    simp (le-leb _ _ (c .before .before .before .if1 .left), ← (c .before .holder-fits .ensures), not-true (c .before .holder-fits .result) (c .if2 .taken))
+
+least-count-requires : tie.Need-least-count-requires
+least-count-requires c κs = search needs
+
+returns-3 : tie.Need-returns-3
+unfolding fieldsFit andAlso
+returns-3 c =
+    simp (le-leb _ _ (c .before .before .before .before .before .if1 .left), ← (c .before .before .before .holder-fits .ensures), not-false (c .before .before .before .holder-fits .result) (c .before .before .if2 .left), ← (c .before .least-count .ensures), lt-leb _ _ (c .if3 .taken))
+
+most-count-requires : tie.Need-most-count-requires
+most-count-requires c κs = search needs
+
+returns-4 : tie.Need-returns-4
+unfolding fieldsFit andAlso
+returns-4 c =
+    simp (le-leb _ _ (c .before .before .before .before .before .before .if1 .left), ← (c .before .before .before .before .holder-fits .ensures), not-false (c .before .before .before .before .holder-fits .result) (c .before .before .before .if2 .left), ← (c .before .before .least-count .ensures), le-leb _ _ (c .before .if3 .left), c .most-count .ensures)
+
+pub fits-spec : {M : Type 1} → statement M
+fits-spec =
+    tie.close
+    (tie.spec
+    returns
+    cast-holder-fits
+    holder-fits-requires
+    returns-2
+    least-count-requires
+    returns-3
+    most-count-requires
+    returns-4)

@@ -1,0 +1,22 @@
+-- What the code computes to tell whether a door's fields fit its phase (01, "The record", the table of phases).
+use Prim.Native.Nat.{ℕ}
+use mathlib.Core.Bool.{Bool, cond}
+use lib.Dec.{eqb, ltb, leb}
+use Rattle.tables.specs.Tables.{andAlso}
+use Rattle.door.specs.declared.Door.{Door}
+use Rattle.door.specs.Phase.{closed, free, keeps, leastCount, mostCount}
+
+-- a phase that keeps a person has one who exists, and every other phase has 0
+unfoldable pub holderFits : ℕ → ℕ → ℕ → Bool
+holderFits people phase holder = cond (keeps phase) (ltb holder people) (eqb holder 0)
+
+-- a door's fields fit its phase
+unfoldable pub fieldsFit : ℕ → Door → Bool
+fieldsFit people c =
+    andAlso (leb (c .phase) closed)
+    (andAlso (holderFits people (c .phase) (c .holder))
+    (andAlso (leb (leastCount (c .phase)) (c .count)) (leb (c .count) (mostCount (c .phase)))))
+
+-- a door is free
+unfoldable pub isFree : Door → Bool
+isFree c = andAlso (eqb (c .phase) free) (andAlso (eqb (c .holder) 0) (eqb (c .count) 0))

@@ -1,0 +1,53 @@
+// One door: its phases and the spans of its lights (`phase`), the ten steps and which of them a phase
+// allows (`table`), how a step ends and why a card is denied (`answer`), whether a door's fields fit
+// its phase (`fits`), and what a step does to its door (`does`).
+ghost use mathlib.Core.Path.{_≡_};
+ghost use Rattle.door.specs.Door.{door, freeDoor, doorIn};
+
+pub mod answer;
+pub mod does;
+mod fits;
+pub mod phase;
+pub mod table;
+
+use crate::phase::Phase;
+use tables::lists::byte_at;
+use tables::lists::word_at;
+
+// What the record keeps of one door.
+pub struct Door {
+    pub phase: u8,
+    pub holder: u16,
+    pub count: u16,
+}
+
+impl Door {
+    // A door in this phase, with this person and this countdown.
+    pub(crate) fn new(phase: u8, holder: u16, count: u16) -> Self
+        ensures { λ r. ⌜ r ≡ door phase holder count ⌝ }
+    {
+        Door {
+            phase,
+            holder,
+            count,
+        }
+    }
+
+    // What these lists keep of a door.
+    pub fn among<'a>(phase: &'a [u8], holder: &'a [u16], count: &'a [u16], door: usize) -> Self
+        ensures { λ r. ⌜ r ≡ doorIn (now (phase .entry)) (now (holder .entry)) (now (count .entry)) door ⌝ }
+    {
+        Door::new(
+            byte_at(phase, door),
+            word_at(holder, door),
+            word_at(count, door),
+        )
+    }
+
+    // A door at which nobody has shown a card.
+    pub fn free() -> Self
+        ensures { λ r. ⌜ r ≡ freeDoor ⌝ }
+    {
+        Door::new(Phase::FREE, 0, 0)
+    }
+}

@@ -1,0 +1,121 @@
+-- The theorems of the crate `grammar`: the cutters' answers are what the grammar says.
+-- Assumes nothing.
+use Prim.Native.Nat.{ℕ, _+_, _-_, _≤_}
+use native.Mathlib.Omega.{arith}
+use mathlib.Core.Path.{_≡_, refl, ap, _∙_}
+use mathlib.Core.Logic.{_↔_}
+use mathlib.Core.Bool.{false, true}
+use mathlib.Core.List.{List, [], _∷_, _++_}
+use lib.ListN.{length, drop}
+use Rattle.grammar.specs.declared.cut.Cell.{Cell}
+use Rattle.grammar.specs.declared.cut.Cells.{Cells}
+use Rattle.grammar.specs.declared.cut.Mode.the-variants.{Fresh}
+use Rattle.grammar.specs.declared.cut.FieldCut.the-variants.{Next, Last}
+use Rattle.grammar.specs.declared.cut.RowCut.{RowCut}
+use Rattle.grammar.specs.declared.cut.RowCut.the-variants.{Cut, NoRow, Broken}
+use Rattle.grammar.specs.declared.say.Number.the-variants.{Is}
+use Rattle.grammar.specs.declared.count.Counted.the-variants.{All, UpTo}
+use Rattle.grammar.specs.Grammar.{comma, cr, lf, Field, content, Written, fieldText, Row, WrittenRow, rowText, RowAt, ended, Sheet, Leads}
+use Rattle.grammar.specs.Say.{ProperNumber, isWord, saysWords, numberAt}
+use Rattle.grammar.specs.Cut.{emptyAt, noCells, fieldFrom, cutField, cutRow}
+use Rattle.grammar.specs.Where.{holdsQuote, cellOf, cellsOf, CellHolds, RowHolds}
+use Rattle.grammar.specs.Rows.{row, onRow, rowsFrom, countRows}
+use Rattle.grammar.specs.Past.{past, pastRow, firstDataRow}
+use Rattle.grammar.specs.Meaning.{CutRow, SheetOf, BrokenAfter, FirstFault, Threefold}
+use Rattle.grammar.proofs.Written as written
+use Rattle.grammar.proofs.Found as found
+use Rattle.grammar.proofs.Unique as unique
+use Rattle.grammar.proofs.Reading as reading
+use Rattle.grammar.proofs.Contents as contents
+use Rattle.grammar.proofs.Exact as exact
+use Rattle.grammar.proofs.Whole as whole
+
+module _ (s : List ℕ) (at : ℕ) where
+  -- The row cutter finds the row that the grammar has at a position, with the cells of its fields, and goes on behind it.
+  pub row-is-found : {r : Row} {rest : List ℕ} → RowAt (drop at s) r rest → cutRow s at ≡ Cut (cellsOf noCells at r) (length s - length rest)
+  row-is-found a = exact.row-is-cut s at a
+
+  -- It finds a row only where the grammar has one: the cells hold that row's fields, and the rest of the sheet begins at `next`.
+  pub found-is-row : {cells : Cells} {next : ℕ} → cutRow s at ≡ Cut cells next → CutRow s at cells next
+  found-is-row e = exact.cut-is-row s at e
+
+  -- A position at the sheet's end or behind it has no row.
+  pub behind-no-row : length s ≤ at → cutRow s at ≡ NoRow
+  behind-no-row h = reading.cut-behind s at h
+
+  -- Where the row cutter reports a fault at a byte, that byte is the first at which no continuation could be a well-formed row
+  -- behind the rows so far, or the sheet's length where it ends too soon.
+  pub fault-is-first : {byte : ℕ} (rs : List Row) → Leads s rs (drop at s) → cutRow s at ≡ Broken byte → FirstFault s rs byte
+  fault-is-first {byte} rs l e = whole.fault-first s at byte rs l e
+
+  -- A reader goes over the rows in their order: what is read from its place on is the row there, and then what is read from the
+  -- place past it.
+  pub reader-goes-on : rowsFrom s at ≡ onRow (cutRow s at) (λ _. rowsFrom s (pastRow s at))
+  reader-goes-on = reading.rows-past s at
+
+  -- At a row that is broken, and where there is none, it stays.
+  pub reader-stays-at-fault : {byte : ℕ} → cutRow s at ≡ Broken byte → pastRow s at ≡ at
+  unfolding past
+  reader-stays-at-fault e = ap (λ (c : RowCut). past c at) e
+
+  pub reader-stays-at-end : cutRow s at ≡ NoRow → pastRow s at ≡ at
+  unfolding past
+  reader-stays-at-end e = ap (λ (c : RowCut). past c at) e
+
+-- Behind a header that is a row, a sheet's rows go on with the first data row.
+pub data-behind-header : (s : List ℕ) {cells : Cells} {next : ℕ} → cutRow s 0 ≡ Cut cells next
+    → rowsFrom s 0 ≡ row cells (onRow (firstDataRow s) (rowsFrom s))
+data-behind-header s e = reading.rows-second s e
+
+-- Every row that the grammar can write is cut back to itself, with or without the CRLF behind it.
+pub round-trip : (r : Row) (rest : List ℕ) → WrittenRow r → cutRow (rowText r ++ (cr ∷ lf ∷ rest)) 0 ≡ Cut (cellsOf noCells 0 r) (length (rowText r ++ (cr ∷ lf ∷ rest)) - length rest)
+round-trip r rest w = exact.row-is-cut (rowText r ++ (cr ∷ lf ∷ rest)) 0 (ended w refl)
+
+-- A sheet has one list of rows.
+pub one-reading : {text : List ℕ} {rs ss : List Row} → Sheet text rs → Sheet text ss → rs ≡ ss
+one-reading a b = unique.sheet-unique a b
+
+module _ (s : List ℕ) where
+  -- The rows are counted whole exactly when the text is a sheet, and then they are its rows.
+  pub counted-is-sheet : (n : ℕ) → (countRows s ≡ All n) ↔ SheetOf s n
+  counted-is-sheet n = whole.count-exact s n
+
+  -- Otherwise they are the rows in front of the one that is broken.
+  pub counted-up-to : {n byte : ℕ} → countRows s ≡ UpTo n byte → BrokenAfter s n byte
+  counted-up-to e = whole.count-broken s e
+
+  -- A field is a word without quotes exactly when its content is.
+  pub word-is-content : {cell : Cell} (f : Field) (word : List ℕ) → CellHolds s cell f → holdsQuote word ≡ false
+      → (isWord s cell word ≡ true) ↔ (content f ≡ word)
+  word-is-content f word h n = contents.word-exact s f word h n
+
+  -- A row says three words without quotes exactly when it has three fields with these contents.
+  pub words-are-contents : {cells : Cells} (r : Row) (x y z : List ℕ) → RowHolds s cells r → holdsQuote x ≡ false → holdsQuote y ≡ false → holdsQuote z ≡ false
+      → (saysWords s cells x y z ≡ true) ↔ Threefold r x y z
+  words-are-contents r x y z h a b c = contents.words-exact s r x y z h a b c
+
+  -- A number is read exactly when the field's content is a proper number, with its value.
+  pub number-is-proper : {cell : Cell} (f : Field) (n : ℕ) → CellHolds s cell f → (numberAt s cell ≡ Is n) ↔ ProperNumber (content f) n
+  number-is-proper f n h = contents.number-exact s f n h
+
+module _ (s : List ℕ) (at : ℕ) (f : Field) (w : Written f) where
+  field-read : (t : List ℕ) → drop at s ≡ fieldText f ++ t → cutField s at ≡ fieldFrom (written.modeAfter f) (cellOf at f) (at + length (fieldText f)) t
+  unfolding cutField
+  field-read t e = rw e (written.field-run written.field-steps f at t w)
+
+  -- The field cutter finds a written field, told by what stands behind it: a comma, a CRLF, or the sheet's end.
+  pub field-before-comma : (t : List ℕ) → drop at s ≡ fieldText f ++ (comma ∷ t) → cutField s at ≡ Next (cellOf at f) (at + length (fieldText f) + 1)
+  field-before-comma t e = field-read (comma ∷ t) e ∙ written.field-comma (cellOf at f) (at + length (fieldText f)) t (written.rest-after f)
+
+  pub field-before-crlf : (t : List ℕ) → drop at s ≡ fieldText f ++ (cr ∷ lf ∷ t) → cutField s at ≡ Last (cellOf at f) (at + length (fieldText f) + 2)
+  field-before-crlf t e =
+      let n : at + length (fieldText f) + 1 + 1 ≡ at + length (fieldText f) + 2 = omega arith in
+      field-read (cr ∷ lf ∷ t) e ∙ written.field-crlf (cellOf at f) (at + length (fieldText f)) t (written.rest-after f) ∙ ap (Last (cellOf at f)) n
+
+  pub field-before-end : drop at s ≡ fieldText f ++ [] → cutField s at ≡ Last (cellOf at f) (at + length (fieldText f))
+  field-before-end e = field-read [] e ∙ written.field-last (cellOf at f) (at + length (fieldText f)) (written.rest-after f)
+
+-- And it finds only written fields: a comma, or a CRLF or the sheet's end, stands behind one.
+pub found-is-field : (s : List ℕ) (at : ℕ) → found.FieldFound (drop at s) (cutField s at)
+unfolding cutField
+found-is-field s at = found.field-found (drop at s) Fresh (emptyAt at) at found.in-fresh

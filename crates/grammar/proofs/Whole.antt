@@ -1,0 +1,260 @@
+-- Whole sheets: their rows one after the other, and where they break.
+-- Assumes nothing.
+use Prim.Native.Nat.{ℕ, zero, suc, _+_, _-_, _≤_, _<_}
+use native.Mathlib.Omega.{arith}
+use mathlib.Core.Path.{_≡_, refl, sym, ap, _∙_}
+use mathlib.Core.Logic.{_↔_}
+use mathlib.Core.Bool.{Bool, true, false}
+use mathlib.Core.List.{List, [], _∷_, _++_, append-assoc}
+use lib.ListN.{length, take, drop, length-append, length-drop, drop-of-length-le}
+use lib.Seq.{take-at}
+use lib.Dec.{ltb}
+use borrow.Author.Tests.{ltb-true, ltb-false}
+use Rattle.grammar.specs.declared.cut.Mode.the-variants.{Fresh}
+use Rattle.grammar.specs.declared.cut.Cells.{Cells}
+use Rattle.grammar.specs.declared.cut.RowCut.{RowCut}
+use Rattle.grammar.specs.declared.cut.RowCut.the-variants.{Cut, NoRow, Broken}
+use Rattle.grammar.specs.declared.count.Counted.the-variants.{All, UpTo}
+use Rattle.grammar.specs.Grammar.{cr, lf, Row, rowText, RowAt, ended, last, Sheet, no-row, row, Leads, here, on}
+use Rattle.grammar.specs.Cut.{emptyAt, noCells, rowFrom, cutRow}
+use Rattle.grammar.specs.Rows.{Rows, onRow, rowsFrom, countFrom, countRows}
+use Rattle.grammar.specs.Rows
+use Rattle.grammar.specs.Meaning.{SheetOf, BrokenAfter, FirstFault}
+use Rattle.grammar.proofs.Found.{in-fresh, row-crlf, row-sheet, RowFound, row-found}
+use Rattle.grammar.proofs.Unique.{row-unique, no-row-at, sheet-unique}
+use Rattle.grammar.proofs.Faults.{EndsAt, Some, some, Stuck, row-stuck}
+use Rattle.grammar.proofs.Steps.{cut-within}
+use Rattle.grammar.proofs.Reading.{cut-behind, cut-there, rows-next}
+use Rattle.grammar.proofs.Exact.{row-read, rest-shorter, cut-from, row-is-cut, cut-is-row}
+
+-- ---- rows in front of a text
+
+-- two readings of the same text that begin with the same rows go on alike
+sheet-behind : {text : List ℕ} (rs : List Row) {ss : List Row} {t : List ℕ} → Leads text rs t → Sheet text (rs ++ ss) → Sheet t ss
+sheet-behind [] here s = s
+sheet-behind (r ∷ rs) (on a l) (row b s) = sheet-behind rs l (rw (row-unique b a refl .behind) at s)
+
+-- a sheet that begins with some rows goes on as a sheet
+record RestSheet (t : List ℕ) : Type 0 where
+  rows : List Row
+  is : Sheet t rows
+
+sheet-after : {text : List ℕ} {rs ss : List Row} {t : List ℕ} → Leads text rs t → Sheet text ss → RestSheet t
+sheet-after here s = record { rows = _; is = s }
+sheet-after (on a l) no-row = absurd (no-row-at a refl)
+sheet-after (on a l) (row b s) = sheet-after l (rw (row-unique b a refl .behind) at s)
+
+leads-nothing : {text : List ℕ} {rs : List Row} {t : List ℕ} → Leads text rs t → [] ≡ text → [] ≡ t
+leads-nothing here e = e
+leads-nothing (on a l) e = absurd (no-row-at a e)
+
+-- the bytes of rows that each end in CRLF
+rowsText : List Row → List ℕ
+rowsText [] = []
+rowsText (r ∷ rs) = rowText r ++ (cr ∷ lf ∷ rowsText rs)
+
+-- rows with a byte behind them all end in CRLF, so they stand as they are in front of any other text
+leads-text : {text : List ℕ} {rs : List Row} {t : List ℕ} → Leads text rs t → (t ≡ [] → ⊥) → text ≡ rowsText rs ++ t
+unfolding rowsText
+leads-text here n = refl
+leads-text {rs = r ∷ rs} {t} (on (ended w e) l) n = e ∙ rw (leads-text l n) (sym (append-assoc (rowText r) (cr ∷ lf ∷ rowsText rs) t))
+leads-text (on (last w e h) l) n = absurd (n (sym (leads-nothing l refl)))
+
+leads-any : {text : List ℕ} {rs : List Row} {t : List ℕ} (other : List ℕ) → Leads text rs t → (t ≡ [] → ⊥) → Leads (rowsText rs ++ other) rs other
+unfolding rowsText
+leads-any other here n = here
+leads-any {rs = r ∷ rs} other (on (ended w e) l) n = on (ended w (append-assoc (rowText r) (cr ∷ lf ∷ rowsText rs) other)) (leads-any other l n)
+leads-any other (on (last w e h) l) n = absurd (n (sym (leads-nothing l refl)))
+
+leads-sheet : {text : List ℕ} {rs ss : List Row} {t : List ℕ} → Leads text rs t → Sheet t ss → Sheet text (rs ++ ss)
+leads-sheet here s = s
+leads-sheet (on a l) s = row a (leads-sheet l s)
+
+-- ---- all the rows of a sheet
+
+-- what is read of a sheet from a position on
+data Reading (s : List ℕ) (at : ℕ) (rows : Rows) : Type 0 where
+  is-sheet : (rs : List Row) → Sheet (drop at s) rs → ((n : ℕ) → countFrom n rows ≡ All (n + length rs)) → Reading s at rows
+  is-broken : (rs : List Row) (stop byte : ℕ) → Leads (drop at s) rs (drop stop s) → cutRow s stop ≡ Broken byte
+      → ((n : ℕ) → countFrom n rows ≡ UpTo (n + length rs) byte) → Reading s at rows
+
+module _ (s : List ℕ) (at : ℕ) where
+  one-more : {r : Row} {rest : List ℕ} (cells : Cells) (next : ℕ) (rows : Rows) → RowAt (drop at s) r rest → drop next s ≡ rest
+      → Reading s next rows → Reading s at (Rows.row cells rows)
+  unfolding countFrom
+  one-more {r} cells next rows a e (is-sheet rs h c) =
+      is-sheet (r ∷ rs) (row a (rw e at h)) (λ n. c (n + 1) ∙ ap All (omega arith))
+  one-more {r} cells next rows a e (is-broken rs stop byte l b c) =
+      is-broken (r ∷ rs) stop byte (on a (rw e at l)) b (λ n. c (n + 1) ∙ ap (λ (m : ℕ). UpTo m byte) (omega arith))
+
+  turn : (cut : RowCut) → cutRow s at ≡ cut → ((next : ℕ) → at < next → next ≤ length s → Reading s next (rowsFrom s next)) → Reading s at (onRow cut (rowsFrom s))
+  unfolding countFrom
+  turn (Cut cells next) e more =
+      let c = cut-is-row s at e in
+      let w = cut-there s at e in
+      one-more cells next (rowsFrom s next) (c .there) (c .behind) (more next (w .0) (w .1))
+  turn NoRow e more = is-sheet [] (rw (no-row-end e) no-row) (λ n. ap All (omega arith))
+    where
+      no-row-end : cutRow s at ≡ NoRow → drop at s ≡ []
+      no-row-end e′ = go (ltb at (length s)) refl
+        where
+          go : (q : Bool) → ltb at (length s) ≡ q → drop at s ≡ []
+          go true q = absurd (rw e′ at (cut-within s at (ltb-true at (length s) q) refl))
+          go false q = drop-of-length-le s (ltb-false at (length s) q)
+  turn (Broken byte) e more = is-broken [] at byte here e (λ n. ap (λ (m : ℕ). UpTo m byte) (omega arith))
+
+reading : (s : List ℕ) (most at : ℕ) → length s - at < most → Reading s at (rowsFrom s at)
+reading s zero at h = absurd (omega arith)
+reading s (suc most) at h = rw (rows-next s at) (turn s at (cutRow s at) refl (λ next l w. reading s most next (omega arith)))
+
+clash : {cells : Cells} {next byte : ℕ} {A : Type 0} → Cut cells next ≡ Broken byte → A
+clash e = let z : _≡_ {A = ℕ} 0 1 = cc in absurd (omega arith)
+
+-- where a row breaks there is a byte
+broken-there-in : (s : List ℕ) (at : ℕ) {byte : ℕ} → cutRow s at ≡ Broken byte → at < length s
+broken-there-in s at {byte} e = go (ltb at (length s)) refl
+  where
+    go : (q : Bool) → ltb at (length s) ≡ q → at < length s
+    go true q = ltb-true at (length s) q
+    go false q =
+        let h = cut-behind s at (ltb-false at (length s) q) in
+        let z : _≡_ {A = ℕ} 0 1 = cc in
+        absurd (omega arith)
+
+-- and no sheet
+no-sheet-there : (s : List ℕ) (at : ℕ) {byte : ℕ} {text : List ℕ} {ss : List Row} → cutRow s at ≡ Broken byte → Sheet text ss → text ≡ drop at s → ⊥
+no-sheet-there s at e no-row h =
+    let l = broken-there-in s at e in
+    let n : 0 ≡ length s - at = ap length h ∙ length-drop at s in
+    omega arith
+no-sheet-there s at e (row a t) h = clash (sym (row-is-cut s at (rw h at a)) ∙ e)
+
+module _ (s : List ℕ) where
+  all-counted : Reading s 0 (rowsFrom s 0) → (n : ℕ) → (countRows s ≡ All n) ↔ SheetOf s n
+  unfolding countRows
+  all-counted (is-sheet rs h c) n = (
+    (λ e. record { rows = rs; is = h; count = let q = c 0 in let z : 0 + length rs ≡ n = cc in omega arith }),
+    (λ o. c 0 ∙ ap All (let q = ap length (sheet-unique h (o .is)) in let k = o .count in omega arith)),
+  )
+  all-counted (is-broken rs stop byte l b c) n = (
+    (λ e. let q = c 0 in let z : _≡_ {A = ℕ} 0 1 = cc in absurd (omega arith)),
+    (λ o. absurd (no-sheet-there s stop b (sheet-after l (o .is) .is) refl)),
+  )
+
+  broken-counted : Reading s 0 (rowsFrom s 0) → {n byte : ℕ} → countRows s ≡ UpTo n byte → BrokenAfter s n byte
+  unfolding countRows
+  broken-counted (is-sheet rs h c) e = let q = c 0 in let z : _≡_ {A = ℕ} 0 1 = cc in absurd (omega arith)
+  broken-counted (is-broken rs stop b l d c) {n} {byte} e =
+      let q = c 0 in
+      let z : 0 + length rs ≡ n = cc in
+      let y : b ≡ byte = cc in
+      record { rows = rs; stop = stop; leads = l; broken-there = d ∙ ap Broken y; count = omega arith }
+
+  from-start : Reading s 0 (rowsFrom s 0)
+  from-start = reading s (suc (length s)) 0 (omega arith)
+
+  -- a sheet is counted whole exactly when it is one
+  pub count-exact : (n : ℕ) → (countRows s ≡ All n) ↔ SheetOf s n
+  count-exact = all-counted from-start
+
+  -- and up to the row that breaks otherwise
+  pub count-broken : {n byte : ℕ} → countRows s ≡ UpTo n byte → BrokenAfter s n byte
+  count-broken = broken-counted from-start
+
+-- ---- where a row breaks
+
+-- no row is read where reading breaks off
+record RowFront (text : List ℕ) (r : Row) : Type 0 where
+  rest : List ℕ
+  is : RowAt text r rest
+
+front : {text : List ℕ} {r : Row} {ss : List Row} → Sheet text (r ∷ ss) → RowFront text r
+front (row a h) = record { rest = _; is = a }
+
+not-nothing : (b : List ℕ) {m : List ℕ} → Some m → b ++ m ≡ [] → ⊥
+not-nothing [] some h = let n = ap length h in omega arith
+not-nothing (x ∷ b) p h = let n = ap length h in omega arith
+
+-- a text that is read to its end is one row
+record OneRow (text : List ℕ) : Type 0 where
+  is-row : Row
+  is : RowAt text is-row []
+
+empty-list : (t : List ℕ) → length t ≡ 0 → t ≡ []
+empty-list [] h = refl
+empty-list (b ∷ t) h = absurd (omega arith)
+
+one-row : {text : List ℕ} (i : ℕ) (cut : RowCut) → rowFrom Fresh (emptyAt i) noCells i text ≡ cut → (text ≡ [] → ⊥) → EndsAt (i + length text) cut → RowFound text cut → OneRow text
+one-row i NoRow e n h f = absurd h
+one-row i (Broken byte) e n h f = absurd h
+one-row {text} i (Cut cells next) e n h (row-sheet r w q) = record { is-row = r; is = last w q n }
+one-row {text} i (Cut cells next) e n h (row-crlf r rest w q) =
+    let a : RowAt text r rest = ended w q in
+    let k = rest-shorter a in
+    let m : next ≡ i + (length text - length rest) = let p = row-read i noCells a in cc in
+    let z : length rest ≡ 0 = go (length text) refl k m in
+    record { is-row = r; is = rw (empty-list rest z) at a }
+  where
+    go : (x : ℕ) → length text ≡ x → length rest ≤ length text → next ≡ i + (length text - length rest) → length rest ≡ 0
+    go zero p k m = omega arith
+    go (suc x) p k m = omega arith
+
+module _ (s : List ℕ) (at byte : ℕ) (rs : List Row) (l : Leads s rs (drop at s)) (e : cutRow s at ≡ Broken byte) where
+  byte-there : at < length s
+  byte-there = broken-there-in s at e
+
+  some-left : drop at s ≡ [] → ⊥
+  some-left h = let n : length s - at ≡ 0 = sym (length-drop at s) ∙ ap length h in let t = byte-there in omega arith
+
+  stuck : Stuck (rowFrom Fresh (emptyAt at) noCells at) (drop at s) at byte
+  stuck = rw (sym (cut-from s at byte-there) ∙ e) at (row-stuck (drop at s) Fresh (emptyAt at) noCells at)
+
+  s-is : s ≡ rowsText rs ++ (stuck .before ++ stuck .behind)
+  s-is = leads-text l some-left ∙ ap (λ (t : List ℕ). rowsText rs ++ t) (stuck .split)
+
+  rows-long : length (rowsText rs) ≡ at
+  rows-long =
+      let n : length s ≡ length (rowsText rs) + (length s - at) = ap length (leads-text l some-left) ∙ length-append (rowsText rs) (drop at s) ∙ ap (λ (m : ℕ). length (rowsText rs) + m) (length-drop at s) in
+      let t = byte-there in
+      omega arith
+
+  -- the sheet up to n bytes behind the place where the row broke, with another text behind it
+  up-to : (front behind other : List ℕ) → stuck .before ++ stuck .behind ≡ front ++ behind → (n : ℕ) → n ≡ at + length front
+      → take n s ++ other ≡ rowsText rs ++ (front ++ other)
+  up-to front behind other h n p =
+      let m : length (rowsText rs ++ front) ≡ n = let q = rows-long in simp length-append (omega arith) in
+      rw (s-is, h, ← append-assoc (rowsText rs) front behind, take-at (rowsText rs ++ front) behind n m) (append-assoc (rowsText rs) front other)
+
+  mend-one : OneRow (stuck .before ++ stuck .mend)
+  mend-one = one-row at _ refl (not-nothing (stuck .before) (stuck .some-mend)) (stuck .mended) (row-found (stuck .before ++ stuck .mend) Fresh (emptyAt at) noCells at in-fresh)
+
+  mended-sheet : Sheet (take byte s ++ stuck .mend) (rs ++ (mend-one .is-row ∷ []))
+  mended-sheet =
+      rw (up-to (stuck .before) (stuck .behind) (stuck .mend) refl byte (stuck .place))
+      (leads-sheet (leads-any (stuck .before ++ stuck .mend) l some-left) (row (mend-one .is) no-row))
+
+  no-more-there : (other : List ℕ) (r : Row) (more : List Row) (behind : List ℕ) → stuck .behind ≡ behind → byte < length s
+      → Sheet (take (byte + 1) s ++ other) (rs ++ (r ∷ more)) → ⊥
+  no-more-there other r more [] h n t =
+      let z : length (stuck .behind) ≡ 0 = ap length h in
+      let m : length s ≡ length (rowsText rs) + (length (stuck .before) + length (stuck .behind)) = ap length s-is ∙ simp length-append in
+      let q = rows-long in
+      let p = stuck .place in
+      omega arith
+  no-more-there other r more (c ∷ behind) h n t =
+      let text-is : take (byte + 1) s ++ other ≡ rowsText rs ++ (stuck .before ++ (c ∷ other)) =
+      up-to (stuck .before ++ (c ∷ [])) behind other (rw h (sym (append-assoc (stuck .before) (c ∷ []) behind))) (byte + 1) (let p = stuck .place in simp length-append (omega arith))
+      ∙ ap (λ (x : List ℕ). rowsText rs ++ x) (append-assoc (stuck .before) (c ∷ []) other) in
+      let f = front (sheet-behind rs (leads-any (stuck .before ++ (c ∷ other)) l some-left) (rw text-is at t)) in
+      clash (sym (row-read at noCells (f .is)) ∙ stuck .hopeless c behind other h)
+
+  -- where the row cutter reports a fault, it is the first
+  pub fault-first : FirstFault s rs byte
+  fault-first = record {
+    within = let w = cut-within s at byte-there e in w .1;
+    mend = stuck .mend;
+    next = mend-one .is-row;
+    mended = mended-sheet;
+    hopeless = λ other r more n t. no-more-there other r more (stuck .behind) refl n t;
+    too-soon = λ r more t. no-sheet-there s at e (sheet-behind rs l t) refl;
+  }

@@ -1,0 +1,52 @@
+-- What the theorems of proofs/Theorems.antt say of the cutters' answers, in terms of the grammar alone.
+use Prim.Native.Nat.{ℕ, _+_, _-_, _≤_, _<_}
+use mathlib.Core.Path.{_≡_}
+use mathlib.Core.List.{List, [], _∷_, _++_}
+use lib.ListN.{length, take, drop}
+use Rattle.grammar.specs.declared.cut.Cells.{Cells}
+use Rattle.grammar.specs.declared.cut.RowCut.the-variants.{Broken}
+use Rattle.grammar.specs.Grammar.{Row, RowAt, Sheet, Leads, content, fields}
+use Rattle.grammar.specs.Cut.{cutRow}
+use Rattle.grammar.specs.Where.{RowHolds, fieldOf}
+
+-- a row that was cut: the grammar has a row there, the cells hold it, and `next` is where the rest begins
+pub record CutRow (s : List ℕ) (at : ℕ) (cells : Cells) (next : ℕ) : Type 0 where
+  pub row : Row
+  pub rest : List ℕ
+  pub there : RowAt (drop at s) row rest
+  pub holds : RowHolds s cells row
+  pub next-is : next ≡ length s - length rest
+  pub behind : drop next s ≡ rest
+
+-- a text is a sheet of so many rows
+pub record SheetOf (s : List ℕ) (n : ℕ) : Type 0 where
+  pub rows : List Row
+  pub is : Sheet s rows
+  pub count : length rows ≡ n
+
+-- a text has so many rows, and then none that can be read
+pub record BrokenAfter (s : List ℕ) (n byte : ℕ) : Type 0 where
+  pub rows : List Row
+  pub stop : ℕ
+  pub leads : Leads s rows (drop stop s)
+  pub broken-there : cutRow s stop ≡ Broken byte
+  pub count : length rows ≡ n
+
+-- the byte told is the first at which no continuation could be a well-formed row behind the rows so far
+pub record FirstFault (s : List ℕ) (rs : List Row) (byte : ℕ) : Type 0 where
+  pub within : byte ≤ length s
+  -- up to it some continuation is a sheet with one row more
+  pub mend : List ℕ
+  pub next : Row
+  pub mended : Sheet (take byte s ++ mend) (rs ++ (next ∷ []))
+  -- with it none is a sheet with a row more
+  pub hopeless : (other : List ℕ) (r : Row) (more : List Row) → byte < length s → Sheet (take (byte + 1) s ++ other) (rs ++ (r ∷ more)) → ⊥
+  -- where the sheet ends too soon, it is no sheet with a row more itself
+  pub too-soon : (r : Row) (more : List Row) → Sheet s (rs ++ (r ∷ more)) → ⊥
+
+-- a row of three fields with these contents
+pub record Threefold (r : Row) (first second third : List ℕ) : Type 0 where
+  pub three : length (fields r) ≡ 3
+  pub first-is : content (fieldOf 0 r) ≡ first
+  pub second-is : content (fieldOf 1 r) ≡ second
+  pub third-is : content (fieldOf 2 r) ≡ third

@@ -1,0 +1,46 @@
+-- `kind_from_passed` meets its contract: the words are tried in their order. Assumes nothing.
+use mathlib.Core.Path.{sym, _∙_}
+use Rattle.printed.specs.Steps.{placeAmong}
+use borrow.Author.Needs.{needs}
+use Rattle.run.proofs.steps.kind_from_passed.Statement.{statement}
+use Rattle.run.proofs.steps.kind_from_passed.Tie as tie
+
+slice-aggregate-is-word : tie.Need-slice-aggregate-is-word
+slice-aggregate-is-word c = search needs
+
+is-word-requires : tie.Need-is-word-requires
+is-word-requires c κs = search needs
+
+returns : tie.Need-returns
+unfolding placeAmong
+returns c = rw (sym (c .before .is-word .ensures) ∙ c .if1 .taken)
+
+slice-aggregate-is-word-2 : tie.Need-slice-aggregate-is-word-2
+slice-aggregate-is-word-2 c = search needs
+
+is-word-requires-2 : tie.Need-is-word-requires-2
+is-word-requires-2 c κs = search needs
+
+returns-2 : tie.Need-returns-2
+unfolding placeAmong
+returns-2 c = rw (sym (c .before .before .before .before .is-word .ensures) ∙ c .before .before .before .if1 .left, sym (c .before .is-word2 .ensures) ∙ c .if2 .taken)
+
+kind-from-dark-requires : tie.Need-kind-from-dark-requires
+kind-from-dark-requires c κs = search needs
+
+returns-3 : tie.Need-returns-3
+unfolding placeAmong
+returns-3 c = rw (sym (c .before .before .before .before .before .is-word .ensures) ∙ c .before .before .before .before .if1 .left, sym (c .before .before .is-word2 .ensures) ∙ c .before .if2 .left) (c .kind-from-dark .ensures)
+
+pub kind-from-passed-spec : {M : Type 1} → statement M
+kind-from-passed-spec =
+    tie.close
+    (tie.spec
+    slice-aggregate-is-word
+    is-word-requires
+    returns
+    slice-aggregate-is-word-2
+    is-word-requires-2
+    returns-2
+    kind-from-dark-requires
+    returns-3)

@@ -1,0 +1,9 @@
+-- Demand 3 of every fresh record. `DemandThree` has the theorem and `Warden` what follows for people; the others prove their parts.
+--     Cleared, Serial, Cards, Runs   the record with its doors cleared, one card served there, the card at one door of a real run,
+--                                    and a whole run
+pub mod Cleared
+pub mod Serial
+pub mod Cards
+pub mod Runs
+pub mod DemandThree
+pub mod Warden

@@ -1,0 +1,6 @@
+-- Demand 3, as paper 01 and the letter write it: `Serving` says what a run records and how that is served, `Served` what holds of
+-- it, `Warden` what follows for people, and `WholeRun` is the run that 01 prints.
+pub mod Serving
+pub mod Served
+pub mod Warden
+pub mod WholeRun

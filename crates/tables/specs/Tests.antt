@@ -1,0 +1,83 @@
+-- What the code computes of the rules: for each a test that a location, a person or a door breaks it, and the answer, none or
+-- the smallest offender. That the tests tell the rules' facts is proved in `proofs/Answers.antt`.
+use Prim.Native.Nat.{ℕ, _+_}
+use mathlib.Core.Bool.{Bool, false, not}
+use mathlib.Core.List.{List}
+use lib.ListN.{getD, length}
+use lib.Dec.{ltb, leb, eqb}
+use Rattle.tables.specs.Tables.{mayBe, andAlso, mostPeople, mostLocations, mostDoors}
+use Rattle.tables.specs.Below.{allBelow, someBelow, leastBelow, leastPair, isNothing, noPair}
+use Rattle.tables.specs.Way.{unvisited, wayOut}
+use Rattle.tables.specs.declared.Found.{Found}
+use Rattle.tables.specs.declared.RightFound.{RightFound}
+
+-- 3: a door is from a location to another one
+unfoldable pub doorFits : ℕ → List ℕ → List ℕ → ℕ → Bool
+doorFits locations origin destination d =
+    andAlso (ltb (getD origin d 0) locations) (andAlso (ltb (getD destination d 0) locations) (not (eqb (getD origin d 0) (getD destination d 0))))
+
+-- 3: an exit is a location
+unfoldable pub exitFits : ℕ → List ℕ → ℕ → Bool
+exitFits locations exit l = ltb (getD exit l 0) locations
+
+-- 3: the counts are in their ranges
+unfoldable pub countsFit : ℕ → ℕ → ℕ → Bool
+countsFit people locations doors =
+    andAlso (leb 1 people) (andAlso (leb people mostPeople) (andAlso (leb 2 locations) (andAlso (leb locations mostLocations) (leb doors mostDoors))))
+
+unfoldable pub inRange : ℕ → ℕ → ℕ → List ℕ → List ℕ → List ℕ → Bool
+inRange people locations doors origin destination exit =
+    andAlso (countsFit people locations doors)
+    (andAlso (allBelow (doorFits locations origin destination) doors) (allBelow (exitFits locations exit) locations))
+
+-- 6: "a location has no exit"
+unfoldable pub lacksExit : List Bool → ℕ → Bool
+lacksExit given l = andAlso (ltb 0 l) (not (getD given l false))
+
+unfoldable pub firstNoExit : ℕ → List Bool → Found
+firstNoExit locations given = leastBelow (lacksExit given) locations
+
+-- 7: "exits from a location never reach 0": with one step more than there are locations unvisited, the way takes them all
+unfoldable pub strays : ℕ → List ℕ → ℕ → Bool
+strays locations exit l = ltb (unvisited locations) (length (wayOut (unvisited locations + 1) exit l))
+
+unfoldable pub firstStray : ℕ → List ℕ → Found
+firstStray locations exit = leastBelow (strays locations exit) locations
+
+-- a door is from one location to another
+unfoldable pub joins : List ℕ → List ℕ → ℕ → ℕ → ℕ → Bool
+joins origin destination from to d = andAlso (eqb (getD origin d 0) from) (eqb (getD destination d 0) to)
+
+-- 8: "exit with no door"
+unfoldable pub lacksDoor : ℕ → List ℕ → List ℕ → List ℕ → ℕ → Bool
+lacksDoor doors origin destination exit l =
+    andAlso (ltb 0 l) (not (someBelow (joins origin destination l (getD exit l 0)) doors))
+
+unfoldable pub firstNoDoor : ℕ → ℕ → List ℕ → List ℕ → List ℕ → Found
+firstNoDoor locations doors origin destination exit = leastBelow (lacksDoor doors origin destination exit) locations
+
+-- 9: "right to l but not to its exit"
+unfoldable pub lacksRight : List ℕ → List Bool → ℕ → ℕ → Bool
+lacksRight exit right p l = andAlso (ltb 0 l) (andAlso (mayBe right p l) (not (mayBe right p (getD exit l 0))))
+
+unfoldable pub firstNoRight : ℕ → ℕ → List ℕ → List Bool → RightFound
+firstNoRight people locations exit right = leastPair (lacksRight exit right) people locations
+
+-- a door by which the person may come in from outside
+unfoldable pub letsIn : List ℕ → List ℕ → List Bool → ℕ → ℕ → Bool
+letsIn origin destination right p d = andAlso (eqb (getD origin d 0) 0) (mayBe right p (getD destination d 0))
+
+-- 10: "person has no first location from outside"
+unfoldable pub shutOut : ℕ → List ℕ → List ℕ → List Bool → ℕ → Bool
+shutOut doors origin destination right p = not (someBelow (letsIn origin destination right p) doors)
+
+unfoldable pub firstShutOut : ℕ → ℕ → List ℕ → List ℕ → List Bool → Found
+firstShutOut people doors origin destination right = leastBelow (shutOut doors origin destination right) people
+
+-- "its tables pass 3 and 6 to 10": the whole test of a record's tables, each finished before the next
+unfoldable pub lawfulB : ℕ → ℕ → ℕ → List ℕ → List ℕ → List ℕ → List Bool → Bool
+lawfulB people locations doors origin destination exit right =
+    andAlso (inRange people locations doors origin destination exit)
+    (andAlso (isNothing (firstStray locations exit))
+    (andAlso (isNothing (firstNoDoor locations doors origin destination exit))
+    (andAlso (noPair (firstNoRight people locations exit right)) (isNothing (firstShutOut people doors origin destination right)))))

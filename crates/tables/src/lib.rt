@@ -1,0 +1,22 @@
+// The tables of a site: what is found in them, what is told of a way out, and the entries of lent
+// lists (`lists`). The definitions of the rules and of the way out are in specs/, the theorems that
+// they tell the paper's facts in proofs/.
+pub mod lists;
+
+// What a search over a table finds: the smallest offender, or none.
+pub enum Found {
+    At(usize),
+    Nothing,
+}
+
+// What the search over people and locations finds: the smallest person, then the location; or none.
+pub enum RightFound {
+    At { person: usize, location: usize },
+    Nothing,
+}
+
+// What is told of a way out: its length, or that the list lent for it is shorter (number 13).
+pub enum WayTold {
+    Length(usize),
+    TooShort,
+}
