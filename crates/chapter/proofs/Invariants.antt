@@ -11,7 +11,7 @@ use lib.Dec.{eqb, lit≤}
 use Rattle.tables.specs.Tables.{mayBe, orElse, andAlso}
 use Rattle.tables.proofs.Laws.{and-left, and-right, and-both}
 use Rattle.record.specs.declared.record.Record.{Record}
-use Rattle.door.specs.Phase.{free, read, granted, green, walked, expired, denied, red, dimmed, closed, keeps, grants}
+use Rattle.phases.specs.Phase.{free, read, granted, green, walked, expired, denied, red, dimmed, closed, keeps, grants}
 use Rattle.sound.specs.Grants.{GrantAt}
 use Rattle.record.specs.Sound.{Sound}
 use Rattle.sound.proofs.Cases.{same-or-not, below-or-not, one-of}

@@ -5,10 +5,10 @@ use mathlib.Core.Logic.{_⊎_, inl, inr, ⊎-elim}
 use mathlib.Core.List.{List, [], _∷_}
 use native.Mathlib.Omega.{arith}
 use Rattle.record.specs.declared.record.Record.{Record}
-use Rattle.door.specs.declared.table.Kind.{Kind}
-use Rattle.door.specs.declared.answer.Answer.{Answer}
-use Rattle.door.specs.declared.answer.Answer.the-variants.{Done, NoSuch, NotAllowed, TooShort, Unsound}
-use Rattle.door.specs.Answers.{numberOf}
+use Rattle.phases.specs.declared.table.Kind.{Kind}
+use Rattle.phases.specs.declared.answer.Answer.{Answer}
+use Rattle.phases.specs.declared.answer.Answer.the-variants.{Done, NoSuch, NotAllowed, TooShort, Unsound}
+use Rattle.phases.specs.Answers.{numberOf}
 use Rattle.record.specs.Doors.{Tables, tablesOf, Shaped}
 use Rattle.record.specs.Sound.{Sound}
 use Rattle.record.specs.Steps.{stepOf}

@@ -10,12 +10,12 @@ use lib.ListN.{getD}
 use Rattle.tables.specs.Tables.{orElse, andAlso}
 use Rattle.door.specs.declared.Door.{Door}
 use Rattle.record.specs.declared.record.Record.{Record}
-use Rattle.door.specs.declared.table.Kind.{Kind}
-use Rattle.door.specs.declared.table.Kind.the-variants.{Decide}
-use Rattle.door.specs.declared.answer.Answer.the-variants.{Done}
-use Rattle.door.specs.Phase.{free, read, grants, keeps}
+use Rattle.phases.specs.declared.table.Kind.{Kind}
+use Rattle.phases.specs.declared.table.Kind.the-variants.{Decide}
+use Rattle.phases.specs.declared.answer.Answer.the-variants.{Done}
+use Rattle.phases.specs.Phase.{free, read, grants, keeps}
 use Rattle.record.specs.Doors.{freshRecord, Shaped}
-use Rattle.door.specs.Kinds.{allows, numberOfKind}
+use Rattle.phases.specs.Kinds.{allows, numberOfKind}
 use Rattle.record.specs.Sound.{Sound}
 use Rattle.record.specs.Steps.{First, stepOf}
 use Rattle.sound.proofs.Cases.{same-or-not}

@@ -9,13 +9,13 @@ use lib.Dec.{eqb, ltb}
 use Rattle.tables.specs.Tables.{orElse, andAlso}
 use Rattle.door.specs.declared.Door.{Door}
 use Rattle.record.specs.declared.record.Record.{Record}
-use Rattle.door.specs.declared.table.Kind.{Kind}
-use Rattle.door.specs.declared.table.Kind.the-variants.{Card, Decide, Green, Red, Walk, Tick, Passed, Lapsed, Dark, Ack, Unknown}
-use Rattle.door.specs.declared.answer.Answer.the-variants.{Done}
-use Rattle.door.specs.Phase.{free, read, granted, green, walked, expired, denied, red, dimmed, closed, grants, keeps}
+use Rattle.phases.specs.declared.table.Kind.{Kind}
+use Rattle.phases.specs.declared.table.Kind.the-variants.{Card, Decide, Green, Red, Walk, Tick, Passed, Lapsed, Dark, Ack, Unknown}
+use Rattle.phases.specs.declared.answer.Answer.the-variants.{Done}
+use Rattle.phases.specs.Phase.{free, read, granted, green, walked, expired, denied, red, dimmed, closed, grants, keeps}
 use Rattle.door.specs.Door.{door, freeDoor}
 use Rattle.record.specs.Doors.{doorOf, Shaped}
-use Rattle.door.specs.Kinds.{allows, namesPerson, numberOfKind}
+use Rattle.phases.specs.Kinds.{allows, namesPerson, numberOfKind}
 use Rattle.sound.specs.Grants.{GrantAt}
 use Rattle.record.specs.Sound.{Sound}
 use Rattle.door.specs.Does.{effect}

@@ -23,9 +23,9 @@ use mathlib.Core.List.{List}
 use lib.ListN.{getD}
 use Rattle.tables.specs.Way.{wayOf}
 use Rattle.record.specs.declared.record.Record.{Record}
-use Rattle.door.specs.declared.table.Kind.{Kind}
-use Rattle.door.specs.declared.table.Kind.the-variants.{Decide}
-use Rattle.door.specs.declared.answer.Answer.the-variants.{Done}
+use Rattle.phases.specs.declared.table.Kind.{Kind}
+use Rattle.phases.specs.declared.table.Kind.the-variants.{Decide}
+use Rattle.phases.specs.declared.answer.Answer.the-variants.{Done}
 use Rattle.record.specs.Doors.{Tables, freshRecord, Shaped}
 use Rattle.record.specs.Sound.{Sound}
 use Rattle.record.specs.Steps.{stepOf}

@@ -8,7 +8,7 @@ use borrow.Author.Tests.{eqb-true, eq-eqb}
 use lib.Dec.{eqb}
 use Rattle.door.specs.declared.Door.{Door}
 use Rattle.record.specs.declared.record.Record.{Record}
-use Rattle.door.specs.Phase.{read, grants}
+use Rattle.phases.specs.Phase.{read, grants}
 use Rattle.record.specs.Doors.{Tables, tablesOf, doorOf}
 use Rattle.sound.specs.Grants.{GrantAt}
 use Rattle.sound.proofs.Cases.{same-or-not}

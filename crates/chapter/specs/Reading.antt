@@ -9,9 +9,9 @@ use lib.Dec.{eqb}
 use Rattle.tables.specs.Tables.{mayBe, orElse}
 use Rattle.tables.specs.Rules.{DoorFrom}
 use Rattle.record.specs.declared.record.Record.{Record}
-use Rattle.door.specs.declared.table.Kind.{Kind}
-use Rattle.door.specs.declared.table.Kind.the-variants.{Card, Decide, Green, Red, Walk, Tick, Passed, Lapsed, Dark, Ack}
-use Rattle.door.specs.Phase.{free, read, granted, green, walked, expired, denied, red, dimmed, closed}
+use Rattle.phases.specs.declared.table.Kind.{Kind}
+use Rattle.phases.specs.declared.table.Kind.the-variants.{Card, Decide, Green, Red, Walk, Tick, Passed, Lapsed, Dark, Ack}
+use Rattle.phases.specs.Phase.{free, read, granted, green, walked, expired, denied, red, dimmed, closed}
 use Rattle.record.specs.Doors.{Tables, tablesOf}
 use Rattle.sound.specs.Grants.{GrantAt}
 use Rattle.record.specs.Run.{Row, lastOf}

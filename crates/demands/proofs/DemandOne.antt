@@ -42,16 +42,16 @@ use Rattle.tables.proofs.Laws.{and-left, and-right, and-both, clash, least-at, 
 use Rattle.tables.proofs.Answers.{in-range-tells, rule-9, lawful-tells}
 use Rattle.tables.proofs.WayOut.{way-at-most-31}
 use Rattle.record.specs.declared.record.Record.{Record}
-use Rattle.door.specs.declared.table.Kind.{Kind}
-use Rattle.door.specs.declared.table.Kind.the-variants.{Card, Decide, Green, Red, Walk, Tick, Passed, Lapsed, Dark, Ack, Unknown}
+use Rattle.phases.specs.declared.table.Kind.{Kind}
+use Rattle.phases.specs.declared.table.Kind.the-variants.{Card, Decide, Green, Red, Walk, Tick, Passed, Lapsed, Dark, Ack, Unknown}
 use Rattle.door.specs.declared.Door.{Door}
-use Rattle.door.specs.declared.answer.Answer.{Answer}
-use Rattle.door.specs.declared.answer.Answer.the-variants.{NoSuch, NotAllowed, Unsound}
-use Rattle.door.specs.Answers.{numberOf}
-use Rattle.door.specs.Phase.{green, denied, red}
+use Rattle.phases.specs.declared.answer.Answer.{Answer}
+use Rattle.phases.specs.declared.answer.Answer.the-variants.{NoSuch, NotAllowed, Unsound}
+use Rattle.phases.specs.Answers.{numberOf}
+use Rattle.phases.specs.Phase.{green, denied, red}
 use Rattle.record.specs.Doors.{doorOf, Shaped}
 use Rattle.sound.specs.Grants.{grantOf}
-use Rattle.door.specs.Kinds.{kindOf, allows, namesPerson}
+use Rattle.phases.specs.Kinds.{kindOf, allows, namesPerson}
 use Rattle.sound.specs.SoundTest.{listsSound}
 use Rattle.record.specs.SoundTest.{soundB}
 use Rattle.door.specs.declared.does.Does.{Does}

@@ -16,14 +16,14 @@ use Rattle.tables.specs.Way.{wayOf, ifRoom, told, written}
 use Rattle.tables.proofs.WayOut.{the-way}
 use Rattle.door.specs.declared.Door.{Door}
 use Rattle.record.specs.declared.record.Record.{Record}
-use Rattle.door.specs.declared.table.Kind.{Kind}
-use Rattle.door.specs.declared.table.Kind.the-variants.{Card, Decide, Green, Red, Walk, Tick, Passed, Lapsed, Dark, Ack, Unknown}
-use Rattle.door.specs.declared.answer.Answer.the-variants.{Done}
+use Rattle.phases.specs.declared.table.Kind.{Kind}
+use Rattle.phases.specs.declared.table.Kind.the-variants.{Card, Decide, Green, Red, Walk, Tick, Passed, Lapsed, Dark, Ack, Unknown}
+use Rattle.phases.specs.declared.answer.Answer.the-variants.{Done}
 use Rattle.record.specs.declared.steps.Step.{Step}
 use Rattle.record.specs.declared.questions.WayAnswer.the-variants.{Length}
-use Rattle.door.specs.Phase.{free, read, granted, green, walked, expired, denied, red, dimmed, closed}
+use Rattle.phases.specs.Phase.{free, read, granted, green, walked, expired, denied, red, dimmed, closed}
 use Rattle.record.specs.Doors.{doorOf, Tables, putDoor, Shaped}
-use Rattle.door.specs.Kinds.{allows, namesPerson}
+use Rattle.phases.specs.Kinds.{allows, namesPerson}
 use Rattle.record.specs.Sound.{Sound}
 use Rattle.door.specs.declared.does.Does.{Does}
 use Rattle.door.specs.Does.{burns, effect}

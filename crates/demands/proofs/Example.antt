@@ -5,7 +5,7 @@ use mathlib.Core.Path.{_≡_, refl}
 use mathlib.Core.List.{[], _∷_}
 use Rattle.tables.specs.Tables.{mayBe, orElse, andAlso}
 use Rattle.tables.specs.Below.{leastBelow, orAt}
-use Rattle.door.specs.Phase.{read, grants}
+use Rattle.phases.specs.Phase.{read, grants}
 use Rattle.door.specs.Door.{door}
 use Rattle.record.specs.Doors.{zeros, freshRecord, putDoor, putAt}
 use Rattle.sound.specs.Grants.{grantsTo, grantOf, hasGrant}

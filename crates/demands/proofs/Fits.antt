@@ -15,13 +15,13 @@ use Rattle.grammar.specs.declared.cut.RowCut.the-variants.{Cut, NoRow, Broken}
 use Rattle.grammar.specs.declared.cut.Cells.{Cells}
 use Rattle.record.specs.declared.record.Record.{Record}
 use Rattle.door.specs.declared.Door.{Door}
-use Rattle.door.specs.declared.table.Kind.{Kind}
-use Rattle.door.specs.declared.answer.Answer.{Answer}
-use Rattle.door.specs.declared.answer.Answer.the-variants.{Done, NoSuch, NotAllowed, TooShort, Unsound}
+use Rattle.phases.specs.declared.table.Kind.{Kind}
+use Rattle.phases.specs.declared.answer.Answer.{Answer}
+use Rattle.phases.specs.declared.answer.Answer.the-variants.{Done, NoSuch, NotAllowed, TooShort, Unsound}
 use Rattle.record.specs.declared.steps.Step.{Step}
-use Rattle.door.specs.Answers.{numberOf}
+use Rattle.phases.specs.Answers.{numberOf}
 use Rattle.record.specs.Doors.{doorOf, Shaped}
-use Rattle.door.specs.Kinds.{allows}
+use Rattle.phases.specs.Kinds.{allows}
 use Rattle.record.specs.Sound.{Sound}
 use Rattle.record.specs.SoundTest.{soundB}
 use Rattle.door.specs.declared.does.Does.{Does}

@@ -13,16 +13,16 @@ use Rattle.tables.specs.Tables.{mayBe}
 use Rattle.tables.proofs.Laws.{and-left, and-right, tell-and, tell-le}
 use Rattle.tables.specs.Tests.{lawfulB}
 use Rattle.door.specs.declared.Door.{Door}
-use Rattle.door.specs.declared.table.Kind.{Kind}
-use Rattle.door.specs.declared.table.Kind.the-variants.{Card, Decide, Green, Red, Walk, Tick, Passed, Lapsed, Dark, Ack, Unknown}
-use Rattle.door.specs.declared.answer.Answer.{Answer}
-use Rattle.door.specs.declared.answer.Answer.the-variants.{Done, NoSuch, NotAllowed, TooShort, Unsound}
-use Rattle.door.specs.Phase.{green, expired, red, dimmed, granted, grants}
+use Rattle.phases.specs.declared.table.Kind.{Kind}
+use Rattle.phases.specs.declared.table.Kind.the-variants.{Card, Decide, Green, Red, Walk, Tick, Passed, Lapsed, Dark, Ack, Unknown}
+use Rattle.phases.specs.declared.answer.Answer.{Answer}
+use Rattle.phases.specs.declared.answer.Answer.the-variants.{Done, NoSuch, NotAllowed, TooShort, Unsound}
+use Rattle.phases.specs.Phase.{green, expired, red, dimmed, granted, grants}
 use Rattle.door.specs.Door.{freeDoor, doorIn}
-use Rattle.door.specs.Answers.{numberOf}
-use Rattle.door.specs.Kinds.{kindOf}
+use Rattle.phases.specs.Answers.{numberOf}
+use Rattle.phases.specs.Kinds.{kindOf}
 use Rattle.door.specs.Does.{burns, effect}
-use Rattle.door.proofs.Entries.{table-allows}
+use Rattle.phases.proofs.Entries.{table-allows}
 use Rattle.sound.specs.Grants.{GrantAt, hasGrant}
 use Rattle.sound.specs.Reasons.{firstReason}
 use Rattle.sound.specs.SoundTest.{zeroBeyond, placesFit, doorsFit, grantsFit, soleGrants, doorsSound, listsSound}

@@ -12,10 +12,10 @@ use Rattle.tables.specs.Tests.{lacksExit, firstNoExit, strays, firstStray, join
 use Rattle.tables.specs.Way.{unlessOutside, wayOut, unvisited, wayOf, ifRoom, told, written}
 use Rattle.record.specs.declared.record.Record.{Record}
 use Rattle.record.specs.declared.steps.Step.{Step}
-use Rattle.door.specs.declared.table.Kind.the-variants.{Decide, Green, Walk}
-use Rattle.door.specs.Phase.{grants, green, expired}
+use Rattle.phases.specs.declared.table.Kind.the-variants.{Decide, Green, Walk}
+use Rattle.phases.specs.Phase.{grants, green, expired}
 use Rattle.record.specs.Doors.{Shaped, zeros}
-use Rattle.door.specs.Kinds.{allows}
+use Rattle.phases.specs.Kinds.{allows}
 use Rattle.sound.specs.Grants.{grantsTo, grantOf, hasGrant}
 use Rattle.record.specs.Sound.{Sound}
 use Rattle.door.specs.Does.{effect}

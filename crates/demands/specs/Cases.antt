@@ -4,9 +4,9 @@ use mathlib.Core.Path.{_≡_}
 use mathlib.Core.List.{List, [], _∷_}
 use lib.ListN.{getD}
 use Rattle.record.specs.declared.record.Record.{Record}
-use Rattle.door.specs.declared.table.Kind.the-variants.{Card, Decide, Green, Walk, Passed, Ack}
+use Rattle.phases.specs.declared.table.Kind.the-variants.{Card, Decide, Green, Walk, Passed, Ack}
 use Rattle.record.specs.declared.questions.WayAnswer.the-variants.{Length}
-use Rattle.door.specs.Phase.{green, expired}
+use Rattle.phases.specs.Phase.{green, expired}
 use Rattle.record.specs.Run.{Row, rowOf, lastOf}
 use Rattle.record.specs.Questions.{wayAnswerOf, wayWritten}
 use Rattle.verdict.specs.declared.Verdict.the-variants.{Accepted, NoExit, Stray, NoDoor, NoRight, ShutOut}

@@ -34,16 +34,16 @@ use Rattle.tables.specs.Rules.{InRange, Lawful}
 use Rattle.tables.specs.Tests.{inRange, firstNoExit, firstStray, firstNoDoor, firstNoRight, firstShutOut, lawfulB}
 use Rattle.tables.specs.Way.{wayOf, told, written}
 use Rattle.record.specs.declared.record.Record.{Record}
-use Rattle.door.specs.declared.table.Kind.{Kind}
-use Rattle.door.specs.declared.table.Kind.the-variants.{Card, Decide, Green, Red, Walk, Tick, Passed, Lapsed, Dark, Ack, Unknown}
-use Rattle.door.specs.declared.answer.Answer.{Answer}
-use Rattle.door.specs.declared.answer.Answer.the-variants.{Done, NoSuch, NotAllowed, Unsound}
+use Rattle.phases.specs.declared.table.Kind.{Kind}
+use Rattle.phases.specs.declared.table.Kind.the-variants.{Card, Decide, Green, Red, Walk, Tick, Passed, Lapsed, Dark, Ack, Unknown}
+use Rattle.phases.specs.declared.answer.Answer.{Answer}
+use Rattle.phases.specs.declared.answer.Answer.the-variants.{Done, NoSuch, NotAllowed, Unsound}
 use Rattle.record.specs.declared.steps.Step.{Step}
-use Rattle.door.specs.Answers.{numberOf}
+use Rattle.phases.specs.Answers.{numberOf}
 use Rattle.door.specs.declared.Door.{Door}
 use Rattle.door.specs.declared.does.Does.{Does}
 use Rattle.door.specs.declared.does.Does.the-variants.{Stays, Turns, Moves}
-use Rattle.door.specs.Phase.{granted, expired, denied, closed, keeps, grants, mostCount}
+use Rattle.phases.specs.Phase.{granted, expired, denied, closed, keeps, grants, mostCount}
 use Rattle.door.specs.Door.{freeDoor, doorIn}
 use Rattle.door.specs.Fits.{fieldsFit}
 use Rattle.door.specs.Does.{effect}
@@ -51,8 +51,8 @@ use Rattle.record.specs.Doors.{freshRecord, Shaped}
 use Rattle.sound.specs.Grants.{GrantAt, grantOf}
 use Rattle.sound.specs.Reasons.{firstReason}
 use Rattle.sound.specs.SoundTest.{listsSound}
-use Rattle.door.specs.Kinds.{kindOf, allows, namesPerson}
-use Rattle.door.specs.Table.{asked}
+use Rattle.phases.specs.Kinds.{kindOf, allows, namesPerson}
+use Rattle.phases.specs.Table.{asked}
 use Rattle.record.specs.Sound.{ZeroBeyond, Sound}
 use Rattle.record.specs.SoundTest.{soundB}
 use Rattle.record.specs.Steps.{stepOf}
@@ -168,7 +168,7 @@ pub record RulesAnswers : Type 0 where
       → Tells (lawfulB people locations doors origin destination exit right) (Lawful people locations doors origin destination exit right)
   pub way-out : (locations : ℕ) (exit : List ℕ) (from : ℕ) (list : List ℕ) → WayTells (wayOf locations exit from) list
 
--- ---- crate `door`
+-- ---- crates `phases` and `door`
 
 -- a step leaves its door in one of the ten phases, with one of the reasons told
 abbrev pub DoesTold : Does → Type 0

@@ -10,12 +10,12 @@ use lib.ListN.{length, getD, drop}
 use Rattle.tables.specs.Rules.{SafeWay}
 use Rattle.tables.specs.Way.{Way}
 use Rattle.record.specs.declared.record.Record.{Record}
-use Rattle.door.specs.declared.table.Kind.{Kind}
-use Rattle.door.specs.declared.table.Kind.the-variants.{Decide, Green, Red, Tick}
-use Rattle.door.specs.declared.answer.Answer.the-variants.{Done, NotAllowed}
+use Rattle.phases.specs.declared.table.Kind.{Kind}
+use Rattle.phases.specs.declared.table.Kind.the-variants.{Decide, Green, Red, Tick}
+use Rattle.phases.specs.declared.answer.Answer.the-variants.{Done, NotAllowed}
 use Rattle.record.specs.declared.steps.Step.{Step}
 use Rattle.record.specs.declared.questions.WayAnswer.the-variants.{Length}
-use Rattle.door.specs.Phase.{granted, green, expired, denied, red, dimmed}
+use Rattle.phases.specs.Phase.{granted, green, expired, denied, red, dimmed}
 use Rattle.door.specs.Door.{door}
 use Rattle.record.specs.Doors.{doorOf, Shaped}
 use Rattle.record.specs.Sound.{Sound}

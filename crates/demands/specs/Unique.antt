@@ -27,18 +27,18 @@ use Rattle.tables.specs.Tests.{inRange, firstNoExit, firstStray, firstNoDoor, f
 use Rattle.tables.specs.Way.{wayOf, told, written}
 use Rattle.door.specs.declared.Door.{Door}
 use Rattle.record.specs.declared.record.Record.{Record}
-use Rattle.door.specs.declared.table.Kind.{Kind}
-use Rattle.door.specs.declared.table.Kind.the-variants.{Card, Decide, Green, Red, Walk, Tick, Passed, Lapsed, Dark, Ack}
-use Rattle.door.specs.declared.answer.Answer.{Answer}
+use Rattle.phases.specs.declared.table.Kind.{Kind}
+use Rattle.phases.specs.declared.table.Kind.the-variants.{Card, Decide, Green, Red, Walk, Tick, Passed, Lapsed, Dark, Ack}
+use Rattle.phases.specs.declared.answer.Answer.{Answer}
 use Rattle.record.specs.declared.steps.Step.{Step}
 use Rattle.record.specs.declared.steps.Told.{Told}
 use Rattle.record.specs.declared.series.Ran.{Ran}
 use Rattle.record.specs.declared.questions.PlaceAnswer.{PlaceAnswer}
 use Rattle.record.specs.declared.questions.GrantAnswer.{GrantAnswer}
 use Rattle.record.specs.declared.questions.WayAnswer.{WayAnswer}
-use Rattle.door.specs.Answers.{numberOf}
+use Rattle.phases.specs.Answers.{numberOf}
 use Rattle.door.specs.declared.does.Does.{Does}
-use Rattle.door.specs.Phase.{grants}
+use Rattle.phases.specs.Phase.{grants}
 use Rattle.door.specs.Door.{freeDoor, doorIn}
 use Rattle.door.specs.Fits.{fieldsFit}
 use Rattle.door.specs.Does.{effect}
@@ -46,8 +46,8 @@ use Rattle.sound.specs.Grants.{grantOf}
 use Rattle.sound.specs.Reasons.{firstReason}
 use Rattle.sound.specs.SoundTest.{listsSound}
 use Rattle.record.specs.Doors.{freshRecord}
-use Rattle.door.specs.Kinds.{kindOf}
-use Rattle.door.specs.Table.{asked}
+use Rattle.phases.specs.Kinds.{kindOf}
+use Rattle.phases.specs.Table.{asked}
 use Rattle.record.specs.SoundTest.{soundB}
 use Rattle.record.specs.Steps.{First, stepOf, toldBy}
 use Rattle.record.specs.Run.{runOf, answersOf, phasesOf, reasonsOf}

@@ -5,9 +5,9 @@ use lib.Dec.{eqb, ltb}
 use Rattle.door.specs.declared.Door.{Door}
 use Rattle.door.specs.declared.does.Does.{Does}
 use Rattle.door.specs.declared.does.Does.the-variants.{Stays, Turns, Moves}
-use Rattle.door.specs.declared.table.Kind.{Kind}
-use Rattle.door.specs.declared.table.Kind.the-variants.{Card, Decide, Green, Red, Walk, Tick, Passed, Lapsed, Dark, Ack, Unknown}
-use Rattle.door.specs.Phase.{read, granted, green, walked, expired, denied, red, dimmed, closed, greenSpan, redSpan}
+use Rattle.phases.specs.declared.table.Kind.{Kind}
+use Rattle.phases.specs.declared.table.Kind.the-variants.{Card, Decide, Green, Red, Walk, Tick, Passed, Lapsed, Dark, Ack, Unknown}
+use Rattle.phases.specs.Phase.{read, granted, green, walked, expired, denied, red, dimmed, closed, greenSpan, redSpan}
 use Rattle.door.specs.Door.{door, freeDoor}
 
 -- "the countdown falls by one, and on reaching 0 the phase becomes" `out`

@@ -3,7 +3,7 @@ use Prim.Native.Nat.{ℕ}
 use mathlib.Core.List.{List}
 use lib.ListN.{getD}
 use Rattle.door.specs.declared.Door.{Door}
-use Rattle.door.specs.Phase.{free}
+use Rattle.phases.specs.Phase.{free}
 
 -- a door in this phase, with this person and this countdown
 abbrev pub door : ℕ → ℕ → ℕ → Door

@@ -4,7 +4,7 @@ use mathlib.Core.Bool.{Bool, cond}
 use lib.Dec.{eqb, ltb, leb}
 use Rattle.tables.specs.Tables.{andAlso}
 use Rattle.door.specs.declared.Door.{Door}
-use Rattle.door.specs.Phase.{closed, free, keeps, leastCount, mostCount}
+use Rattle.phases.specs.Phase.{closed, free, keeps, leastCount, mostCount}
 
 -- a phase that keeps a person has one who exists, and every other phase has 0
 unfoldable pub holderFits : ℕ → ℕ → ℕ → Bool

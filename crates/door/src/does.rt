@@ -2,10 +2,10 @@
 ghost use mathlib.Core.Path.{_≡_};
 ghost use Rattle.door.specs.Does.{burns, effect};
 use crate::Door;
-use crate::answer::Reason;
-use crate::phase::Phase;
-use crate::phase::Span;
-use crate::table::Kind;
+use phases::answer::Reason;
+use phases::phase::Phase;
+use phases::phase::Span;
+use phases::table::Kind;
 
 // Nothing; the door becomes so, with the reason that is told; or the door becomes so, and the person
 // whom it held is in its destination.

@@ -2,13 +2,16 @@
 ghost use mathlib.Core.Path.{_≡_};
 ghost use Rattle.door.specs.Fits.{holderFits, fieldsFit};
 use crate::Door;
-use crate::phase::Phase;
+use crate::phase::keeps;
+use crate::phase::least_count;
+use crate::phase::most_count;
+use phases::phase::Phase;
 
 // A phase that keeps a person has one who exists, and every other phase has 0.
 fn holder_fits(people: usize, phase: u8, holder: usize) -> bool
     ensures { λ r. ⌜ r ≡ holderFits people phase holder ⌝ }
 {
-    if Phase::keeps(phase) {
+    if keeps(phase) {
         return holder < people;
     }
     holder == 0
@@ -27,9 +30,9 @@ impl Door {
         if !holder_fits(people, phase, self.holder as usize) {
             return false;
         }
-        if count < Phase::least_count(phase) {
+        if count < least_count(phase) {
             return false;
         }
-        count <= Phase::most_count(phase)
+        count <= most_count(phase)
     }
 }

@@ -1,16 +1,13 @@
-// One door: its phases and the spans of its lights (`phase`), the ten steps and which of them a phase
-// allows (`table`), how a step ends and why a card is denied (`answer`), whether a door's fields fit
-// its phase (`fits`), and what a step does to its door (`does`).
+// One door: what is kept of it, what its phase decides (`phase`), whether its fields fit its phase
+// (`fits`), and what a step does to it (`does`).
 ghost use mathlib.Core.Path.{_≡_};
 ghost use Rattle.door.specs.Door.{door, freeDoor, doorIn};
 
-pub mod answer;
 pub mod does;
 mod fits;
 pub mod phase;
-pub mod table;
 
-use crate::phase::Phase;
+use phases::phase::Phase;
 use tables::lists::byte_at;
 use tables::lists::word_at;
 

@@ -12,9 +12,9 @@ use Rattle.tables.specs.Tests.{lacksExit, firstNoExit, strays, firstStray, join
 use Rattle.tables.specs.Way.{unlessOutside, wayOut, unvisited, wayOf}
 use Rattle.record.specs.declared.record.Record.{Record}
 use Rattle.record.specs.declared.steps.Step.{Step}
-use Rattle.door.specs.Phase.{grants}
+use Rattle.phases.specs.Phase.{grants}
 use Rattle.record.specs.Doors.{Shaped, zeros, freshRecord}
-use Rattle.door.specs.Kinds.{kindOf, allows}
+use Rattle.phases.specs.Kinds.{kindOf, allows}
 use Rattle.sound.specs.Grants.{grantsTo, grantOf, hasGrant}
 use Rattle.record.specs.Sound.{Sound}
 use Rattle.door.specs.Does.{effect}

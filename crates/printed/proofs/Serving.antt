@@ -13,7 +13,7 @@ use Rattle.grammar.specs.Rows.{Rows, no-more, broken, row}
 use Rattle.record.specs.declared.record.Record.{Record}
 use Rattle.record.specs.declared.series.Ran.{Ran}
 use Rattle.record.specs.declared.steps.Step.{Step}
-use Rattle.door.specs.declared.answer.Answer.the-variants.{Done}
+use Rattle.phases.specs.declared.answer.Answer.the-variants.{Done}
 use Rattle.record.specs.SoundTest.{soundB}
 use Rattle.record.specs.Run.{Row, rowsOf, lastOf, toldOf, roomFor, roomIn, ranOf, tellingOf, runOf}
 use Rattle.printed.specs.declared.steps.Line.{Line}

@@ -12,21 +12,21 @@ use Rattle.tables.specs.Tables.{orElse}
 use Rattle.tables.proofs.Laws.{and-right}
 use Rattle.door.specs.declared.Door.{Door}
 use Rattle.record.specs.declared.record.Record.{Record}
-use Rattle.door.specs.declared.table.Kind.{Kind}
-use Rattle.door.specs.declared.table.Kind.the-variants.{Card, Decide, Green, Red, Walk, Tick, Passed, Lapsed, Dark, Ack, Unknown}
-use Rattle.door.specs.declared.answer.Answer.the-variants.{NoSuch, NotAllowed}
+use Rattle.phases.specs.declared.table.Kind.{Kind}
+use Rattle.phases.specs.declared.table.Kind.the-variants.{Card, Decide, Green, Red, Walk, Tick, Passed, Lapsed, Dark, Ack, Unknown}
+use Rattle.phases.specs.declared.answer.Answer.the-variants.{NoSuch, NotAllowed}
 use Rattle.record.specs.declared.steps.Deed.{Deed}
 use Rattle.record.specs.declared.steps.Step.{Step}
-use Rattle.door.specs.Phase.{closed}
+use Rattle.phases.specs.Phase.{closed}
 use Rattle.record.specs.Doors.{doorOf}
-use Rattle.door.specs.Kinds.{namesPerson}
-use Rattle.door.specs.Table.{asked}
+use Rattle.phases.specs.Kinds.{namesPerson}
+use Rattle.phases.specs.Table.{asked}
 use Rattle.record.specs.Sound.{Sound}
 use Rattle.door.specs.Does.{effect}
 use Rattle.record.specs.Steps.{reasonFor, act, refused, exist, soundStep}
 use Rattle.record.specs.Deeds.{recordOf, carried, Known}
 use Rattle.sound.proofs.Cases.{below-or-not}
-use Rattle.door.proofs.Entries.{table-allows}
+use Rattle.phases.proofs.Entries.{table-allows}
 
 -- a sound record's lists are as `judge` asks
 pub known : (r : Record) → Sound r → Known (r .people) (r .phase)

@@ -9,7 +9,7 @@ use lib.Dec.{lit≤}
 use Rattle.tables.specs.Tables.{mayBe, orElse, andAlso}
 use Rattle.tables.specs.Rules.{Lawful}
 use Rattle.record.specs.declared.record.Record.{Record}
-use Rattle.door.specs.Phase.{keeps, grants, lit, leastCount, mostCount}
+use Rattle.phases.specs.Phase.{keeps, grants, lit, leastCount, mostCount}
 use Rattle.door.specs.Door.{door, freeDoor}
 use Rattle.record.specs.Doors.{doorOf, zeros, freshRecord, Shaped}
 use Rattle.record.specs.Sound.{ZeroBeyond, DoorOk, Sound}

@@ -10,7 +10,7 @@ use lib.Seq.{getD-set-same, getD-set-other}
 use Rattle.tables.specs.Tables.{mayBe}
 use Rattle.door.specs.declared.Door.{Door}
 use Rattle.record.specs.declared.record.Record.{Record}
-use Rattle.door.specs.Phase.{grants}
+use Rattle.phases.specs.Phase.{grants}
 use Rattle.record.specs.Doors.{doorOf, putDoor, putAt, Shaped}
 use Rattle.sound.specs.Grants.{GrantAt}
 use Rattle.record.specs.Sound.{DoorOk, Sound}

@@ -28,18 +28,18 @@ use Rattle.tables.specs.Tables.{orElse, andAlso}
 use Rattle.tables.proofs.Laws.{and-left, and-right, and-both, clash}
 use Rattle.door.specs.declared.Door.{Door}
 use Rattle.record.specs.declared.record.Record.{Record}
-use Rattle.door.specs.declared.table.Kind.{Kind}
-use Rattle.door.specs.declared.table.Kind.the-variants.{Card, Decide, Green, Red, Walk, Tick, Passed, Lapsed, Dark, Ack, Unknown}
-use Rattle.door.specs.declared.answer.Answer.{Answer}
-use Rattle.door.specs.declared.answer.Answer.the-variants.{Done, NoSuch, NotAllowed, Unsound}
+use Rattle.phases.specs.declared.table.Kind.{Kind}
+use Rattle.phases.specs.declared.table.Kind.the-variants.{Card, Decide, Green, Red, Walk, Tick, Passed, Lapsed, Dark, Ack, Unknown}
+use Rattle.phases.specs.declared.answer.Answer.{Answer}
+use Rattle.phases.specs.declared.answer.Answer.the-variants.{Done, NoSuch, NotAllowed, Unsound}
 use Rattle.record.specs.declared.steps.Step.{Step}
-use Rattle.door.specs.Phase.{free, granted, green, walked, expired, denied, red, dimmed, closed, keeps, grants, lit}
+use Rattle.phases.specs.Phase.{free, granted, green, walked, expired, denied, red, dimmed, closed, keeps, grants, lit}
 use Rattle.door.specs.Door.{door}
 use Rattle.record.specs.Doors.{doorOf, Tables, tablesOf, Shaped}
 use Rattle.sound.specs.Grants.{GrantAt}
 use Rattle.record.specs.Sound.{Sound}
 use Rattle.record.specs.SoundTest.{soundB}
-use Rattle.door.specs.Kinds.{allows, namesPerson}
+use Rattle.phases.specs.Kinds.{allows, namesPerson}
 use Rattle.door.specs.declared.does.Does.{Does}
 use Rattle.door.specs.declared.does.Does.the-variants.{Stays, Turns, Moves}
 use Rattle.door.specs.Does.{burns, effect}

@@ -11,13 +11,13 @@ use Rattle.tables.specs.Tables.{mayBe, orElse, andAlso}
 use Rattle.tables.proofs.Laws.{and-left, and-right, and-both, clash}
 use Rattle.door.specs.declared.Door.{Door}
 use Rattle.record.specs.declared.record.Record.{Record}
-use Rattle.door.specs.declared.table.Kind.{Kind}
-use Rattle.door.specs.declared.table.Kind.the-variants.{Card, Decide, Green, Red, Walk, Tick, Passed, Lapsed, Dark, Ack, Unknown}
-use Rattle.door.specs.Phase.{free, read, granted, green, walked, expired, denied, red, dimmed, closed, keeps, grants, lit, leastCount, mostCount}
+use Rattle.phases.specs.declared.table.Kind.{Kind}
+use Rattle.phases.specs.declared.table.Kind.the-variants.{Card, Decide, Green, Red, Walk, Tick, Passed, Lapsed, Dark, Ack, Unknown}
+use Rattle.phases.specs.Phase.{free, read, granted, green, walked, expired, denied, red, dimmed, closed, keeps, grants, lit, leastCount, mostCount}
 use Rattle.door.specs.Door.{door}
 use Rattle.record.specs.Doors.{doorOf, putDoor, Shaped}
 use Rattle.record.specs.Sound.{DoorOk, Sound}
-use Rattle.door.specs.Kinds.{allows, namesPerson}
+use Rattle.phases.specs.Kinds.{allows, namesPerson}
 use Rattle.sound.specs.Grants.{GrantAt, hasGrant}
 use Rattle.door.specs.declared.does.Does.{Does}
 use Rattle.door.specs.declared.does.Does.the-variants.{Stays, Turns, Moves}

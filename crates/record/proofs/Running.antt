@@ -12,11 +12,11 @@ use Rattle.tables.specs.Tables.{andAlso}
 use Rattle.tables.proofs.Laws.{tell-and, tell-le}
 use Rattle.record.specs.declared.record.Record.{Record}
 use Rattle.record.specs.declared.steps.Step.{Step}
-use Rattle.door.specs.declared.answer.Answer.the-variants.{Done, TooShort, Unsound}
+use Rattle.phases.specs.declared.answer.Answer.the-variants.{Done, TooShort, Unsound}
 use Rattle.record.specs.declared.series.Ran.{Ran}
-use Rattle.door.specs.Answers.{numberOf}
+use Rattle.phases.specs.Answers.{numberOf}
 use Rattle.record.specs.Doors.{Shaped}
-use Rattle.door.specs.Kinds.{kindOf}
+use Rattle.phases.specs.Kinds.{kindOf}
 use Rattle.record.specs.Sound.{Sound}
 use Rattle.record.specs.SoundTest.{soundB}
 use Rattle.record.specs.Steps.{soundStep, stepOf}

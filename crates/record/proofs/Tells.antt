@@ -16,7 +16,7 @@ use Rattle.tables.proofs.Answers.{lawful-tells}
 use Rattle.tables.proofs.Laws.{clash, denied as untrue, tell-lt, tell-le, tell-eq, tell-itself, tell-and, tell-all, tell-as}
 use Rattle.door.specs.declared.Door.{Door}
 use Rattle.record.specs.declared.record.Record.{Record}
-use Rattle.door.specs.Phase.{closed, keeps, grants, lit, leastCount, mostCount}
+use Rattle.phases.specs.Phase.{closed, keeps, grants, lit, leastCount, mostCount}
 use Rattle.door.specs.Door.{freeDoor}
 use Rattle.record.specs.Doors.{doorOf, Shaped}
 use Rattle.sound.specs.Grants.{GrantAt, hasGrant}

@@ -7,13 +7,13 @@ use mathlib.Core.List.{List}
 use lib.ListN.{getD}
 use Rattle.tables.specs.Tables.{mostPeople}
 use Rattle.record.specs.declared.record.Record.{Record}
-use Rattle.door.specs.declared.table.Kind.{Kind}
-use Rattle.door.specs.declared.answer.Answer.the-variants.{Done}
+use Rattle.phases.specs.declared.table.Kind.{Kind}
+use Rattle.phases.specs.declared.answer.Answer.the-variants.{Done}
 use Rattle.record.specs.declared.steps.Step.{Step}
 use Rattle.record.specs.declared.steps.Told.{Told}
 use Rattle.record.specs.declared.steps.Deed.{Deed}
 use Rattle.record.specs.declared.steps.Deed.the-variants.{Tells, Puts, Leads}
-use Rattle.door.specs.Phase.{closed}
+use Rattle.phases.specs.Phase.{closed}
 use Rattle.record.specs.Doors.{putDoor, putAt}
 use Rattle.door.specs.declared.does.Does.the-variants.{Turns}
 use Rattle.record.specs.Steps.{act, refused, soundStep}

@@ -7,12 +7,12 @@ use lib.Seq.{sets}
 use lib.Dec.{leb}
 use Rattle.tables.specs.Tables.{andAlso}
 use Rattle.record.specs.declared.record.Record.{Record}
-use Rattle.door.specs.declared.table.Kind.{Kind}
+use Rattle.phases.specs.declared.table.Kind.{Kind}
 use Rattle.record.specs.declared.steps.Step.{Step}
-use Rattle.door.specs.declared.answer.Answer.the-variants.{Done, TooShort, Unsound}
+use Rattle.phases.specs.declared.answer.Answer.the-variants.{Done, TooShort, Unsound}
 use Rattle.record.specs.declared.series.Ran.{Ran}
-use Rattle.door.specs.Answers.{numberOf}
-use Rattle.door.specs.Kinds.{kindOf}
+use Rattle.phases.specs.Answers.{numberOf}
+use Rattle.phases.specs.Kinds.{kindOf}
 use Rattle.record.specs.SoundTest.{soundB}
 use Rattle.record.specs.Steps.{stepOf}
 

@@ -8,7 +8,7 @@ use Rattle.tables.specs.Tables.{mayBe, mostLocations}
 use Rattle.tables.specs.Rules.{Lawful}
 use Rattle.door.specs.declared.Door.{Door}
 use Rattle.record.specs.declared.record.Record.{Record}
-use Rattle.door.specs.Phase.{closed, keeps, grants, leastCount, mostCount}
+use Rattle.phases.specs.Phase.{closed, keeps, grants, leastCount, mostCount}
 use Rattle.door.specs.Door.{freeDoor}
 use Rattle.record.specs.Doors.{doorOf}
 use Rattle.sound.specs.Grants.{GrantAt}

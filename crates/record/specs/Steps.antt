@@ -6,16 +6,16 @@ use lib.ListN.{getD}
 use lib.Dec.{ltb}
 use Rattle.tables.specs.Tables.{mayBe, orElse, andAlso}
 use Rattle.record.specs.declared.record.Record.{Record}
-use Rattle.door.specs.declared.table.Kind.{Kind}
-use Rattle.door.specs.declared.answer.Answer.{Answer}
-use Rattle.door.specs.declared.answer.Answer.the-variants.{Done, NoSuch, NotAllowed, Unsound}
+use Rattle.phases.specs.declared.table.Kind.{Kind}
+use Rattle.phases.specs.declared.answer.Answer.{Answer}
+use Rattle.phases.specs.declared.answer.Answer.the-variants.{Done, NoSuch, NotAllowed, Unsound}
 use Rattle.record.specs.declared.steps.Step.{Step}
 use Rattle.record.specs.declared.steps.Told.{Told}
 use Rattle.door.specs.declared.does.Does.{Does}
 use Rattle.door.specs.declared.does.Does.the-variants.{Stays, Turns, Moves}
 use Rattle.door.specs.Does.{effect}
 use Rattle.record.specs.Doors.{doorOf, putDoor, putAt}
-use Rattle.door.specs.Kinds.{allows, namesPerson}
+use Rattle.phases.specs.Kinds.{allows, namesPerson}
 use Rattle.sound.specs.Grants.{GrantAt}
 use Rattle.sound.specs.Reasons.{firstReason}
 use Rattle.record.specs.SoundTest.{soundB}

@@ -4,7 +4,7 @@ ghost use mathlib.Core.Path.{_≡_};
 ghost use Rattle.record.specs.Steps.{stepOf, toldBy};
 use crate::record::Record;
 use crate::steps::Told;
-use door::table::Kind;
+use phases::table::Kind;
 
 impl Record {
     // A step of the record that is lent.

@@ -6,15 +6,10 @@ ghost use Rattle.record.specs.SoundTest.{soundB};
 ghost use Rattle.record.specs.Deeds.{holding};
 use door::Door;
 use sound::lists::lists_sound;
-
-// The most people, locations and doors that a record has room for, and the rights of them all.
-pub const MOST_PEOPLE: usize = 64;
-
-pub const MOST_LOCATIONS: usize = 32;
-
-pub const MOST_DOORS: usize = 64;
-
-pub const MOST_RIGHTS: usize = 2048;
+use tables::MOST_DOORS;
+use tables::MOST_LOCATIONS;
+use tables::MOST_PEOPLE;
+use tables::MOST_RIGHTS;
 
 // The tables: the counts, each door's origin and destination, each location's exit, and the rights,
 // 32 to a person. Beside them: the location of each person, and for each door its phase, the person

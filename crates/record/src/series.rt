@@ -10,8 +10,8 @@ ghost use Rattle.record.specs.Run.{roomFor, runOf, answersOf, phasesOf, 
 use crate::record::Record;
 use crate::steps::carry_out;
 use crate::steps::judge;
-use door::answer::Answer;
-use door::table::Kind;
+use phases::answer::Answer;
+use phases::table::Kind;
 use tables::lists::word_at;
 
 // What a run hands back: the last record, and how the run as a whole ended.

@@ -14,16 +14,12 @@ ghost use Rattle.tables.specs.Tests.{doorFits, exitFits, countsFit, inRange, la
 ghost use Rattle.tables.specs.Tests.{strays, firstStray, joins, lacksDoor, firstNoDoor};
 ghost use Rattle.tables.specs.Tests.{lacksRight, firstNoRight, letsIn, shutOut, firstShutOut, lawfulB};
 use tables::Found;
+use tables::MOST_DOORS;
+use tables::MOST_LOCATIONS;
+use tables::MOST_PEOPLE;
 use tables::RightFound;
 use tables::WayTold;
 use tables::lists::byte_at;
-
-// The most people, locations and doors that a site has.
-const MOST_PEOPLE: usize = 64;
-
-const MOST_LOCATIONS: usize = 32;
-
-const MOST_DOORS: usize = 64;
 
 // Whether a person may be in a location.
 pub fn may_be(right: &[bool], person: usize, location: usize) -> bool

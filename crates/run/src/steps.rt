@@ -26,30 +26,21 @@ const CARD: u8 = 0;
 
 const UNKNOWN: u8 = 10;
 
-// The same of a field that names none of the first eight.
-fn kind_from_dark(s: &[u8], cell: Cell) -> u8
-    ensures { λ r. ⌜ r ≡ placeAmong (drop 8 stepWords) (now (s .entry)) cell 8 ⌝ }
+// The number of the step that a field names, in the paper's order. Here and below a few words are tried at a time, and the next
+// function tries those behind them.
+fn kind_of(s: &[u8], cell: Cell) -> u8
+    ensures { λ r. ⌜ r ≡ kindAt (now (s .entry)) cell ⌝ }
 {
-    if is_word(s, cell, b"dark") {
-        return 8;
+    if is_word(s, cell, b"card") {
+        return CARD;
     }
-    if is_word(s, cell, b"ack") {
-        return 9;
+    if is_word(s, cell, b"decide") {
+        return 1;
     }
-    UNKNOWN
-}
-
-// The same of a field that names none of the first six.
-fn kind_from_passed(s: &[u8], cell: Cell) -> u8
-    ensures { λ r. ⌜ r ≡ placeAmong (drop 6 stepWords) (now (s .entry)) cell 6 ⌝ }
-{
-    if is_word(s, cell, b"passed") {
-        return 6;
+    if is_word(s, cell, b"green") {
+        return 2;
     }
-    if is_word(s, cell, b"lapsed") {
-        return 7;
-    }
-    kind_from_dark(s, cell)
+    kind_from_red(s, cell)
 }
 
 // The same of a field that names none of the first three steps.
@@ -68,21 +59,30 @@ fn kind_from_red(s: &[u8], cell: Cell) -> u8
     kind_from_passed(s, cell)
 }
 
-// The number of the step that a field names, in the paper's order. Here and below a few words are tried at a time, and the next
-// function tries those behind them.
-fn kind_of(s: &[u8], cell: Cell) -> u8
-    ensures { λ r. ⌜ r ≡ kindAt (now (s .entry)) cell ⌝ }
+// The same of a field that names none of the first six.
+fn kind_from_passed(s: &[u8], cell: Cell) -> u8
+    ensures { λ r. ⌜ r ≡ placeAmong (drop 6 stepWords) (now (s .entry)) cell 6 ⌝ }
 {
-    if is_word(s, cell, b"card") {
-        return CARD;
+    if is_word(s, cell, b"passed") {
+        return 6;
     }
-    if is_word(s, cell, b"decide") {
-        return 1;
+    if is_word(s, cell, b"lapsed") {
+        return 7;
     }
-    if is_word(s, cell, b"green") {
-        return 2;
+    kind_from_dark(s, cell)
+}
+
+// The same of a field that names none of the first eight.
+fn kind_from_dark(s: &[u8], cell: Cell) -> u8
+    ensures { λ r. ⌜ r ≡ placeAmong (drop 8 stepWords) (now (s .entry)) cell 8 ⌝ }
+{
+    if is_word(s, cell, b"dark") {
+        return 8;
     }
-    kind_from_red(s, cell)
+    if is_word(s, cell, b"ack") {
+        return 9;
+    }
+    UNKNOWN
 }
 
 // The person that a row names: a number for `card`, and nothing for every other step.

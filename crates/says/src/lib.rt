@@ -2,6 +2,9 @@
 // answer. The definitions are in specs/, in the words of paper 01, "Site sheet" and "Numbers given back",
 // and the theorems of them in proofs/. There is no function here.
 use record::record::Record;
+use tables::MOST_DOORS;
+use tables::MOST_LOCATIONS;
+use tables::MOST_RIGHTS;
 use verdict::Verdict;
 
 // The first field of a row.
@@ -35,11 +38,11 @@ pub struct Draft {
     pub people: usize,
     pub locations: usize,
     pub doors: usize,
-    pub origin: [u8; 64],
-    pub destination: [u8; 64],
-    pub exit: [u8; 32],
-    pub given: [bool; 32],
-    pub right: [bool; 2048],
+    pub origin: [u8; MOST_DOORS],
+    pub destination: [u8; MOST_DOORS],
+    pub exit: [u8; MOST_LOCATIONS],
+    pub given: [bool; MOST_LOCATIONS],
+    pub right: [bool; MOST_RIGHTS],
 }
 
 // What is wrong with a row.

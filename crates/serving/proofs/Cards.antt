@@ -8,10 +8,10 @@ use borrow.Author.Tests.{eqb-true, eq-eqb}
 use lib.Dec.{eqb, ltb}
 use Rattle.tables.specs.Tables.{orElse, andAlso}
 use Rattle.door.specs.declared.Door.{Door}
-use Rattle.door.specs.declared.table.Kind.{Kind}
-use Rattle.door.specs.declared.table.Kind.the-variants.{Card, Decide, Green, Red, Walk, Tick, Passed, Lapsed, Dark, Ack, Unknown}
-use Rattle.door.specs.Phase.{free, read, granted, green, walked, expired, denied, red, dimmed, closed, grants}
-use Rattle.door.specs.Kinds.{allows, namesPerson}
+use Rattle.phases.specs.declared.table.Kind.{Kind}
+use Rattle.phases.specs.declared.table.Kind.the-variants.{Card, Decide, Green, Red, Walk, Tick, Passed, Lapsed, Dark, Ack, Unknown}
+use Rattle.phases.specs.Phase.{free, read, granted, green, walked, expired, denied, red, dimmed, closed, grants}
+use Rattle.phases.specs.Kinds.{allows, namesPerson}
 use Rattle.door.specs.declared.does.Does.{Does}
 use Rattle.door.specs.Does.{effect}
 use Rattle.record.specs.Run.{Row}

@@ -5,7 +5,7 @@ use mathlib.Core.Path.{_≡_, sym, ap, subst, _∙_}
 use mathlib.Core.List.{List}
 use Rattle.tables.specs.Tables.{andAlso}
 use Rattle.record.specs.declared.record.Record.{Record}
-use Rattle.door.specs.Phase.{grants}
+use Rattle.phases.specs.Phase.{grants}
 use Rattle.record.specs.Doors.{doorOf, tablesOf, zeros}
 use Rattle.record.specs.Run.{Row, lastOf}
 use Rattle.serving.specs.Serving.{heardOf, noCards, recordedIn}

@@ -11,16 +11,16 @@ use lib.Dec.{eqb, ltb}
 use Rattle.tables.specs.Tables.{andAlso}
 use Rattle.door.specs.declared.Door.{Door}
 use Rattle.record.specs.declared.record.Record.{Record}
-use Rattle.door.specs.declared.table.Kind.{Kind}
-use Rattle.door.specs.declared.table.Kind.the-variants.{Card, Decide, Green, Red, Walk, Tick, Passed, Lapsed, Dark, Ack, Unknown}
-use Rattle.door.specs.declared.answer.Answer.{Answer}
-use Rattle.door.specs.declared.answer.Answer.the-variants.{Done, NoSuch, NotAllowed, TooShort, Unsound}
+use Rattle.phases.specs.declared.table.Kind.{Kind}
+use Rattle.phases.specs.declared.table.Kind.the-variants.{Card, Decide, Green, Red, Walk, Tick, Passed, Lapsed, Dark, Ack, Unknown}
+use Rattle.phases.specs.declared.answer.Answer.{Answer}
+use Rattle.phases.specs.declared.answer.Answer.the-variants.{Done, NoSuch, NotAllowed, TooShort, Unsound}
 use Rattle.record.specs.declared.steps.Step.{Step}
-use Rattle.door.specs.Answers.{numberOf}
-use Rattle.door.specs.Phase.{read, green, walked, expired, denied, red, keeps, grants}
+use Rattle.phases.specs.Answers.{numberOf}
+use Rattle.phases.specs.Phase.{read, green, walked, expired, denied, red, keeps, grants}
 use Rattle.record.specs.Doors.{doorOf, Shaped}
 use Rattle.record.specs.Sound.{Sound}
-use Rattle.door.specs.Kinds.{allows, namesPerson}
+use Rattle.phases.specs.Kinds.{allows, namesPerson}
 use Rattle.door.specs.declared.does.Does.{Does}
 use Rattle.door.specs.declared.does.Does.the-variants.{Stays, Turns, Moves}
 use Rattle.door.specs.Does.{effect}

@@ -7,14 +7,14 @@ use lib.Dec.{eqb}
 use Rattle.tables.specs.Tables.{andAlso}
 use Rattle.door.specs.declared.Door.{Door}
 use Rattle.record.specs.declared.record.Record.{Record}
-use Rattle.door.specs.declared.table.Kind.the-variants.{Decide}
-use Rattle.door.specs.declared.answer.Answer.the-variants.{Done}
+use Rattle.phases.specs.declared.table.Kind.the-variants.{Decide}
+use Rattle.phases.specs.declared.answer.Answer.the-variants.{Done}
 use Rattle.record.specs.declared.steps.Step.{Step}
-use Rattle.door.specs.Phase.{read, granted, denied, grants}
+use Rattle.phases.specs.Phase.{read, granted, denied, grants}
 use Rattle.door.specs.Door.{freeDoor}
 use Rattle.record.specs.Doors.{doorOf, freshRecord, Shaped}
 use Rattle.record.specs.Sound.{Sound}
-use Rattle.door.specs.Kinds.{namesPerson}
+use Rattle.phases.specs.Kinds.{namesPerson}
 use Rattle.record.specs.Run.{Row, rowOf, lastOf}
 use Rattle.serving.specs.Serving.{Line, heardOf, Decision, NoCard, Awaited, Granted, Denied, Shown, shown, noCard}
 use Rattle.serving.specs.Serving.{Entry, recordedIn, rememberedIn, servedWith, stepAt, cardOf, serviceOf, services}

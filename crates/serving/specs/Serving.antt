@@ -5,9 +5,9 @@ use mathlib.Core.Bool.{Bool, false, cond}
 use mathlib.Core.List.{List, [], _∷_, _++_}
 use lib.Dec.{eqb}
 use Rattle.record.specs.declared.record.Record.{Record}
-use Rattle.door.specs.declared.table.Kind.{Kind}
-use Rattle.door.specs.declared.table.Kind.the-variants.{Card, Decide, Green, Red, Walk, Tick, Passed, Lapsed, Dark, Ack, Unknown}
-use Rattle.door.specs.Phase.{granted, denied, greenSpan, redSpan}
+use Rattle.phases.specs.declared.table.Kind.{Kind}
+use Rattle.phases.specs.declared.table.Kind.the-variants.{Card, Decide, Green, Red, Walk, Tick, Passed, Lapsed, Dark, Ack, Unknown}
+use Rattle.phases.specs.Phase.{granted, denied, greenSpan, redSpan}
 use Rattle.record.specs.Run.{Row, toldOf, answerTold, phaseTold, reasonTold}
 
 -- ---- what is heard of a run

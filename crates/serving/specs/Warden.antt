@@ -6,7 +6,7 @@ use mathlib.Core.List.{List, [], _∷_, _++_}
 use mathlib.Core.Logic.{_⊎_}
 use lib.ListN.{getD, set}
 use Rattle.record.specs.declared.record.Record.{Record}
-use Rattle.door.specs.declared.table.Kind.the-variants.{Card, Decide}
+use Rattle.phases.specs.declared.table.Kind.the-variants.{Card, Decide}
 use Rattle.record.specs.Run.{Row, lastOf}
 use Rattle.serving.specs.Serving.{Ending, Refusal, Passage, Lapse, Entry, recordedIn, services}
 

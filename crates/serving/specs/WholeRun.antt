@@ -1,8 +1,8 @@
 -- The run that 01 prints ("Program and one whole run"): each step of the steps sheet with what the panel prints of it.
 use Prim.Native.Nat.{ℕ}
 use mathlib.Core.List.{List, [], _∷_}
-use Rattle.door.specs.declared.table.Kind.{Kind}
-use Rattle.door.specs.declared.table.Kind.the-variants.{Card, Decide, Green, Red, Walk, Passed}
+use Rattle.phases.specs.declared.table.Kind.{Kind}
+use Rattle.phases.specs.declared.table.Kind.the-variants.{Card, Decide, Green, Red, Walk, Passed}
 use Rattle.record.specs.Run.{Row}
 use Rattle.serving.specs.Serving.{Line}
 

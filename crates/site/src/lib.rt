@@ -21,6 +21,10 @@ use says::Word;
 use sheet::say::is_word;
 use sheet::say::number_of;
 use sheet::say::says_words;
+use tables::MOST_DOORS;
+use tables::MOST_LOCATIONS;
+use tables::MOST_PEOPLE;
+use tables::MOST_RIGHTS;
 
 pub mod read;
 
@@ -74,12 +78,6 @@ fn is_header(s: &[u8], cells: Cells) -> bool
 {
     says_words(s, cells, b"kind", b"a", b"b")
 }
-
-const MOST_PEOPLE: usize = 64;
-
-const MOST_LOCATIONS: usize = 32;
-
-const MOST_DOORS: usize = 64;
 
 // Whether so many people and locations make a site.
 fn site_fits(people: usize, locations: usize) -> bool
@@ -164,8 +162,8 @@ fn take_site(mut counts: Counts, people: usize, locations: usize) -> Counted
 // `door,o,t`
 fn take_door<'a>(
     mut counts: Counts,
-    origin: &'a mut [u8; 64],
-    destination: &'a mut [u8; 64],
+    origin: &'a mut [u8; MOST_DOORS],
+    destination: &'a mut [u8; MOST_DOORS],
     from: usize,
     to: usize,
 ) -> Counted
@@ -188,8 +186,8 @@ fn take_door<'a>(
 // `exit,l,m`
 fn take_exit<'a>(
     counts: Counts,
-    exit: &'a mut [u8; 32],
-    given: &'a mut [bool; 32],
+    exit: &'a mut [u8; MOST_LOCATIONS],
+    given: &'a mut [bool; MOST_LOCATIONS],
     from: usize,
     to: usize,
 ) -> Counted
@@ -211,7 +209,12 @@ fn take_exit<'a>(
 }
 
 // `right,p,l`
-fn take_right(counts: Counts, right: &mut [bool; 2048], person: usize, location: usize) -> Counted
+fn take_right(
+    counts: Counts,
+    right: &mut [bool; MOST_RIGHTS],
+    person: usize,
+    location: usize,
+) -> Counted
     requires { ⌜ Bounded counts ⌝ }
     ensures { λ r. ⌜ ((origin destination exit : List ℕ) (given : List Bool) → after r origin destination exit given (now (right .exit)) ≡ takeLine (draftOf counts origin destination exit given (now (right .entry))) (Line.Right person location)) ⌝ }
 {
@@ -233,11 +236,11 @@ fn take_right(counts: Counts, right: &mut [bool; 2048], person: usize, location:
 fn take<'a>(
     counts: Counts,
     line: Line,
-    origin: &'a mut [u8; 64],
-    destination: &'a mut [u8; 64],
-    exit: &'a mut [u8; 32],
-    given: &'a mut [bool; 32],
-    right: &'a mut [bool; 2048],
+    origin: &'a mut [u8; MOST_DOORS],
+    destination: &'a mut [u8; MOST_DOORS],
+    exit: &'a mut [u8; MOST_LOCATIONS],
+    given: &'a mut [bool; MOST_LOCATIONS],
+    right: &'a mut [bool; MOST_RIGHTS],
 ) -> Counted
     requires { ⌜ Bounded counts ⌝ }
     ensures { λ r. ⌜ after r (now (origin .exit)) (now (destination .exit)) (now (exit .exit)) (now (given .exit)) (now (right .exit)) ≡ takeLine (draftOf counts (now (origin .entry)) (now (destination .entry)) (now (exit .entry)) (now (given .entry)) (now (right .entry))) line ⌝ }

@@ -20,6 +20,9 @@ use says::Stop;
 use sheet::LIMIT;
 use sheet::cut::cut_row;
 use tables::Found;
+use tables::MOST_DOORS;
+use tables::MOST_LOCATIONS;
+use tables::MOST_RIGHTS;
 use tables::RightFound;
 use verdict::Verdict;
 
@@ -60,11 +63,11 @@ fn verdict_of(fault: Fault, row: usize) -> Verdict
 fn take_rows<'s, 'a>(
     s: &'s [u8],
     from: usize,
-    origin: &'a mut [u8; 64],
-    destination: &'a mut [u8; 64],
-    exit: &'a mut [u8; 32],
-    given: &'a mut [bool; 32],
-    right: &'a mut [bool; 2048],
+    origin: &'a mut [u8; MOST_DOORS],
+    destination: &'a mut [u8; MOST_DOORS],
+    exit: &'a mut [u8; MOST_LOCATIONS],
+    given: &'a mut [bool; MOST_LOCATIONS],
+    right: &'a mut [bool; MOST_RIGHTS],
 ) -> Stop
     ensures { λ r. ⌜ stoppedAt r (now (origin .exit)) (now (destination .exit)) (now (exit .exit)) (now (given .exit)) (now (right .exit)) ≡ readLines (draftOf noCounts (now (origin .entry)) (now (destination .entry)) (now (exit .entry)) (now (given .entry)) (now (right .entry))) 1 (linesIn (now (s .entry)) (rowsFrom (now (s .entry)) from)) ⌝ }
 {
@@ -99,11 +102,11 @@ fn take_rows<'s, 'a>(
 fn read_rows(s: &[u8], from: usize) -> Reading
     ensures { λ r. ⌜ r ≡ readLines blankDraft 1 (linesIn (now (s .entry)) (rowsFrom (now (s .entry)) from)) ⌝ }
 {
-    let mut origin = [0; 64];
-    let mut destination = [0; 64];
-    let mut exit = [0; 32];
-    let mut given = [false; 32];
-    let mut right = [false; 2048];
+    let mut origin = [0; MOST_DOORS];
+    let mut destination = [0; MOST_DOORS];
+    let mut exit = [0; MOST_LOCATIONS];
+    let mut given = [false; MOST_LOCATIONS];
+    let mut right = [false; MOST_RIGHTS];
     let stop = take_rows(
         s,
         from,
@@ -138,7 +141,15 @@ fn refused(verdict: Verdict) -> SiteRead
 {
     SiteRead {
         verdict,
-        record: Record::fresh(0, 0, 0, [0; 64], [0; 64], [0; 32], [false; 2048]),
+        record: Record::fresh(
+            0,
+            0,
+            0,
+            [0; MOST_DOORS],
+            [0; MOST_DOORS],
+            [0; MOST_LOCATIONS],
+            [false; MOST_RIGHTS],
+        ),
     }
 }
 

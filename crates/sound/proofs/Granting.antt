@@ -10,7 +10,7 @@ use Rattle.tables.specs.Below.{leastBelow, isNothing}
 use Rattle.tables.specs.declared.Found.{Found}
 use Rattle.tables.specs.declared.Found.the-variants.{At, Nothing}
 use Rattle.tables.proofs.Laws.{and-left, and-right, and-both, clash, least-none, none-least, least-at, at-least, denied as untrue}
-use Rattle.door.specs.Phase.{grants}
+use Rattle.phases.specs.Phase.{grants}
 use Rattle.sound.specs.Grants.{GrantAt, grantsTo, grantOf, hasGrant}
 
 module _ (n : ℕ) (phase holder : List ℕ) (p : ℕ) where

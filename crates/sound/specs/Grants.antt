@@ -8,7 +8,7 @@ use lib.Dec.{eqb}
 use Rattle.tables.specs.Tables.{andAlso}
 use Rattle.tables.specs.Below.{leastBelow, isNothing}
 use Rattle.tables.specs.declared.Found.{Found}
-use Rattle.door.specs.Phase.{grants}
+use Rattle.phases.specs.Phase.{grants}
 
 -- door d is one of n doors and holds a grant of person p
 pub record GrantAt (n : ℕ) (phase holder : List ℕ) (p d : ℕ) : Type 0 where

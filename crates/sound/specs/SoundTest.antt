@@ -7,7 +7,7 @@ use lib.Dec.{eqb, ltb}
 use Rattle.tables.specs.Tables.{mayBe, orElse, andAlso, mostLocations, mostDoors}
 use Rattle.tables.specs.Below.{allBelow}
 use Rattle.tables.specs.Tests.{lawfulB}
-use Rattle.door.specs.Phase.{grants}
+use Rattle.phases.specs.Phase.{grants}
 use Rattle.door.specs.Door.{doorIn}
 use Rattle.door.specs.Fits.{fieldsFit, isFree}
 use Rattle.sound.specs.Grants.{hasGrant}

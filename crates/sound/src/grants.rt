@@ -2,8 +2,8 @@
 ghost use mathlib.Core.Path.{_≡_};
 ghost use Rattle.sound.specs.Grants.{grantsTo, grantOf, hasGrant};
 ghost use Rattle.sound.specs.Reasons.{firstReason};
-use door::answer::Reason;
-use door::phase::Phase;
+use door::phase::grants;
+use phases::answer::Reason;
 use tables::Found;
 use tables::lists::byte_at;
 use tables::lists::word_at;
@@ -12,7 +12,7 @@ use tables::lists::word_at;
 fn grants_to<'a>(phase: &'a [u8], holder: &'a [u16], person: usize, door: usize) -> bool
     ensures { λ r. ⌜ r ≡ grantsTo (now (phase .entry)) (now (holder .entry)) person door ⌝ }
 {
-    if !Phase::grants(byte_at(phase, door)) {
+    if !grants(byte_at(phase, door)) {
         return false;
     }
     let held = word_at(holder, door) as usize;

@@ -7,14 +7,12 @@ ghost use Rattle.sound.specs.SoundTest.{doorFits, doorsFit, grantFits, g
 ghost use Rattle.sound.specs.SoundTest.{zeroBeyond, doorsSound, listsSound};
 use crate::grants::has_grant;
 use door::Door;
-use door::phase::Phase;
+use door::phase::grants;
+use phases::phase::Phase;
+use tables::MOST_DOORS;
+use tables::MOST_LOCATIONS;
 use tables::lists::byte_at;
 use tables::lists::word_at;
-
-// The most doors that there is room for, and the rights of one person.
-const MOST_DOORS: usize = 64;
-
-const MOST_LOCATIONS: usize = 32;
 
 // Beyond the count a table holds 0.
 fn zero_at(count: usize, table: &[u8], at: usize) -> bool
@@ -158,7 +156,7 @@ fn grant_fits<'a>(
 ) -> bool
     ensures { λ r. ⌜ r ≡ grantFits (now (origin .entry)) (now (destination .entry)) (now (right .entry)) (now (place .entry)) (now (phase .entry)) (now (holder .entry)) door ⌝ }
 {
-    if !Phase::grants(byte_at(phase, door)) {
+    if !grants(byte_at(phase, door)) {
         return true;
     }
     let person = word_at(holder, door) as usize;
@@ -193,7 +191,7 @@ fn grants_fit<'a>(
 fn sole_grant<'a>(phase: &'a [u8], holder: &'a [u16], door: usize) -> bool
     ensures { λ r. ⌜ r ≡ soleGrant (now (phase .entry)) (now (holder .entry)) door ⌝ }
 {
-    if !Phase::grants(byte_at(phase, door)) {
+    if !grants(byte_at(phase, door)) {
         return true;
     }
     !has_grant(door, phase, holder, word_at(holder, door) as usize)

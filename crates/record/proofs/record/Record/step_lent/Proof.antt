@@ -45,12 +45,12 @@ use denote.Triple.Walked.{says, Stays, stay-ref, stay-none, walkOf, AllGo, goes-
 use denote.Exit.{yes}
 use Rattle.record.specs.Steps.{stepOf, toldBy}
 use Rattle.record.specs.declared.record.Record.{Record}
-use Rattle.door.specs.declared.table.Kind.{Kind}
+use Rattle.phases.specs.declared.table.Kind.{Kind}
 use Rattle.record.specs.declared.steps.Step.{Step}
 use Rattle.record.proofs.record.Record as R
 use Rattle.record.proofs.record.Record.Laws as R′
-use Rattle.door.proofs.table.Kind as K
-use Rattle.door.proofs.table.Kind.Laws as K′
+use Rattle.phases.proofs.table.Kind as K
+use Rattle.phases.proofs.table.Kind.Laws as K′
 use Rattle.record.proofs.steps.Step as S
 use Rattle.record.proofs.steps.Step.Laws as S′
 use Rattle.record.proofs.steps.Told as O

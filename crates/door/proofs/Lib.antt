@@ -1,3 +1,0 @@
--- The theorem about one door.
---     Entries    the table of a hundred entries says what the steps' own rules say
-pub mod Entries

@@ -1,0 +1,49 @@
+-- `Kind::allowed_in` tells what `asked` says: no beyond the table, and its entry within. Assumes nothing.
+use native.Mathlib.Omega.{arith}
+use borrow.Author.Needs.{needs}
+use borrow.Author.Tests.{lt-ltb, le-ltb}
+use Rattle.tables.specs.Tables.{andAlso}
+use Rattle.phases.specs.Kinds.{numberOfKind}
+use Rattle.phases.specs.Table.{table, asked}
+use Rattle.phases.proofs.table.Kind.allowed_in.Statement.{statement}
+use Rattle.phases.proofs.table.Kind.allowed_in.Tie as tie
+
+number-requires : tie.Need-number-requires
+number-requires c κs = search needs
+
+returns : tie.Need-returns
+unfolding asked andAlso
+returns c =
+    let is = c .before .number .ensures in
+    let past = c .if1 .taken in
+    simp (le-ltb (numberOfKind (c .before .before .args .self)) 10 (omega arith))
+
+returns-2 : tie.Need-returns-2
+unfolding asked andAlso
+returns-2 c =
+    let a = c .before .before .before .args in
+    let is = c .before .before .number .ensures in
+    let within = c .before .if1 .left in
+    let past = c .if2 .taken in
+    simp (lt-ltb (numberOfKind (a .self)) 10 (omega arith), le-ltb (a .phase) 10 (omega arith))
+
+mul-result : tie.Need-mul-result
+mul-result c = search needs
+
+add-result : tie.Need-add-result
+add-result c = search needs
+
+array-read-result : tie.Need-array-read-result
+array-read-result c = search needs
+
+returns-3 : tie.Need-returns-3
+unfolding asked andAlso table
+returns-3 c =
+    let a = c .before .before .before .args in
+    let is = c .before .before .number .ensures in
+    let within = c .before .if1 .left in
+    let known = c .if2 .left in
+    simp (lt-ltb (numberOfKind (a .self)) 10 (omega arith), lt-ltb (a .phase) 10 (omega arith), ← is)
+
+pub allowed-in-spec : {M : Type 1} → statement M
+allowed-in-spec = tie.close (tie.spec number-requires returns returns-2 mul-result add-result array-read-result returns-3)

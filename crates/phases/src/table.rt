@@ -1,0 +1,192 @@
+// The ten steps by name and number, and the table that says which step each phase allows.
+ghost use mathlib.Core.Path.{_≡_};
+ghost use Rattle.phases.specs.Kinds.{kindOf, numberOfKind};
+ghost use Rattle.phases.specs.Table.{asked};
+use crate::phase::Phase;
+
+// The ten steps. A number that names none of them is an unknown step, which no phase allows.
+pub enum Kind {
+    Card,
+    Decide,
+    Green,
+    Red,
+    Walk,
+    Tick,
+    Passed,
+    Lapsed,
+    Dark,
+    Ack,
+    Unknown,
+}
+
+// How many steps there are: the length of a row of the table.
+const STEPS: usize = 10;
+
+// Which step each phase allows: a row for each phase, and in it an entry for each of card, decide,
+// green, red, walk, tick, passed, lapsed, dark, ack.
+const ALLOWED: [bool; 100] = [
+    // free
+    true,
+    false,
+    false,
+    false,
+    false,
+    true,
+    false,
+    false,
+    false,
+    false,
+    // read
+    false,
+    true,
+    false,
+    false,
+    false,
+    true,
+    false,
+    false,
+    false,
+    false,
+    // granted
+    false,
+    false,
+    true,
+    false,
+    false,
+    true,
+    false,
+    false,
+    false,
+    false,
+    // green
+    false,
+    false,
+    true,
+    false,
+    true,
+    true,
+    false,
+    false,
+    false,
+    false,
+    // walked
+    false,
+    false,
+    false,
+    false,
+    false,
+    true,
+    true,
+    false,
+    false,
+    false,
+    // expired
+    false,
+    false,
+    false,
+    false,
+    false,
+    true,
+    false,
+    true,
+    false,
+    false,
+    // denied
+    false,
+    false,
+    false,
+    true,
+    false,
+    true,
+    false,
+    false,
+    false,
+    false,
+    // red
+    false,
+    false,
+    false,
+    true,
+    false,
+    true,
+    false,
+    false,
+    false,
+    false,
+    // dimmed
+    false,
+    false,
+    false,
+    false,
+    false,
+    true,
+    false,
+    false,
+    true,
+    false,
+    // closed
+    false,
+    false,
+    false,
+    false,
+    false,
+    true,
+    false,
+    false,
+    false,
+    true,
+];
+
+impl Kind {
+    // The step that this number names.
+    pub fn of(number: u8) -> Self
+        ensures { λ r. ⌜ r ≡ kindOf number ⌝ }
+    {
+        match number {
+            0 => Kind::Card,
+            1 => Kind::Decide,
+            2 => Kind::Green,
+            3 => Kind::Red,
+            4 => Kind::Walk,
+            5 => Kind::Tick,
+            6 => Kind::Passed,
+            7 => Kind::Lapsed,
+            8 => Kind::Dark,
+            9 => Kind::Ack,
+            _ => Kind::Unknown,
+        }
+    }
+
+    // The number of this step: its place in a row of the table.
+    fn number(self) -> usize
+        ensures { λ r. ⌜ r ≡ numberOfKind self ⌝ }
+    {
+        match self {
+            Kind::Card => 0,
+            Kind::Decide => 1,
+            Kind::Green => 2,
+            Kind::Red => 3,
+            Kind::Walk => 4,
+            Kind::Tick => 5,
+            Kind::Passed => 6,
+            Kind::Lapsed => 7,
+            Kind::Dark => 8,
+            Kind::Ack => 9,
+            Kind::Unknown => STEPS,
+        }
+    }
+
+    // Does the table allow this step in this phase?
+    pub fn allowed_in(self, phase: u8) -> bool
+        ensures { λ r. ⌜ r ≡ asked self phase ⌝ }
+    {
+        let step = self.number();
+        if STEPS <= step {
+            return false;
+        }
+        if Phase::CLOSED < phase {
+            return false;
+        }
+        ALLOWED[phase as usize * STEPS + step]
+    }
+}
