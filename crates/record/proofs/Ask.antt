@@ -14,7 +14,6 @@ use lib.Dec.{eqb, ltb}
 use Rattle.tables.specs.Tables.{mayBe, orElse, andAlso}
 use Rattle.tables.specs.Way.{wayOf}
 use Rattle.tables.specs.Rules.{SafeWay}
-use Rattle.tables.specs.declared.Found.the-variants as found
 use Rattle.tables.proofs.Laws.{clash, and-left, and-right}
 use Rattle.tables.proofs.WayOut.{way-is-safe, way-at-most-31}
 use Rattle.record.specs.declared.record.Record.{Record}

@@ -5,7 +5,7 @@
 // right is not given. Location 0 is outside, and everybody's.
 ghost use mathlib.Core.Path.{_≡_};
 ghost use Prim.Native.Nat.{ℕ, _+_, _≤_};
-ghost use lib.ListN.{length, getD};
+ghost use lib.ListN.{length};
 ghost use lib.Seq.{sets};
 ghost use Rattle.tables.specs.Tables.{mayBe};
 ghost use Rattle.tables.specs.Below.{allBelow, someBelow, leastBelow, isNothing, noPair};

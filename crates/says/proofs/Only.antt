@@ -27,7 +27,6 @@ use Rattle.says.specs.declared.Line.{Line}
 use Rattle.says.specs.declared.Line.the-variants.{Site, Door, Exit, Right, Bad}
 use Rattle.says.specs.declared.Draft.{Draft}
 use Rattle.says.specs.declared.Fault.{Fault}
-use Rattle.says.specs.declared.Fault.the-variants as fault
 use Rattle.verdict.specs.declared.Verdict.{Verdict}
 use Rattle.verdict.specs.declared.Verdict.the-variants.{Accepted, BadRow, NoExit, Stray, NoDoor, NoRight, ShutOut}
 use Rattle.says.specs.declared.SiteRead.{SiteRead}

@@ -1,10 +1,9 @@
 // The whole sheet: its rows go into the tables one by one, and then the tables are judged by the rules of the whole sheet.
 ghost use mathlib.Core.Path.{_≡_};
-ghost use lib.ListN.{length};
 ghost use Rattle.grammar.specs.Rows.{rowsFrom};
 ghost use Rattle.says.specs.Draft.{blankDraft};
 ghost use Rattle.says.specs.Lent.{noCounts, draftOf, stop, stoppedAt};
-ghost use Rattle.says.specs.Site.{soundFault, verdictOf, linesIn, readLines, blankRecord, acceptedSite, refusedSite};
+ghost use Rattle.says.specs.Site.{soundFault, verdictOf, linesIn, readLines, acceptedSite, refusedSite};
 ghost use Rattle.says.specs.Site.{judgedBy10, judgedFrom8, judged, settled, siteOf};
 use crate::is_header;
 use crate::line_of;

@@ -1,14 +1,10 @@
+-- `sheet::cut::advance` meets its contract: each mode has the move that `moveOf` gives it.
+-- Assumes nothing.
 use borrow.Author.Needs.{needs}
 use borrow.Author.Tests.{eq-eqb, ne-eqb}
 use Rattle.grammar.specs.Cut.{moveOf}
 use Rattle.sheet.proofs.cut.advance.Statement.{statement}
 use Rattle.sheet.proofs.cut.advance.Tie as tie
-use Rattle.sheet.proofs.cut.advance.Reads as reads
-use Rattle.sheet.proofs.cut.advance.Lts as lts
-use Rattle.sheet.proofs.cut.advance_bare.Reads as advance-bare-reads
-use Rattle.sheet.proofs.cut.advance_shut.Reads as advance-shut-reads
-use Rattle.sheet.proofs.cut.empty_at.Reads as empty-at-reads
-use Rattle.sheet.proofs.cut.up_to.Reads as up-to-reads
 
 enum-told : tie.Need-enum-told
 enum-told c = search needs

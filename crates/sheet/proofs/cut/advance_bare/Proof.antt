@@ -1,11 +1,10 @@
+-- `sheet::cut::advance_bare` meets its contract: each byte has the move that `bareMove` gives it.
+-- Assumes nothing.
 use borrow.Author.Needs.{needs}
 use borrow.Author.Tests.{ne-eqb}
 use Rattle.grammar.specs.Cut.{bareMove}
 use Rattle.sheet.proofs.cut.advance_bare.Statement.{statement}
 use Rattle.sheet.proofs.cut.advance_bare.Tie as tie
-use Rattle.sheet.proofs.cut.advance_bare.Reads as reads
-use Rattle.sheet.proofs.cut.advance_bare.Lts as lts
-use Rattle.sheet.proofs.cut.up_to.Reads as up-to-reads
 
 up-to-requires : tie.Need-up-to-requires
 up-to-requires c κs = search needs

@@ -1,11 +1,10 @@
+-- `sheet::cut::advance_shut` meets its contract: each byte has the move that `shutMove` gives it.
+-- Assumes nothing.
 use borrow.Author.Needs.{needs}
 use borrow.Author.Tests.{eq-eqb, ne-eqb}
 use Rattle.grammar.specs.Cut.{shutMove}
 use Rattle.sheet.proofs.cut.advance_shut.Statement.{statement}
 use Rattle.sheet.proofs.cut.advance_shut.Tie as tie
-use Rattle.sheet.proofs.cut.advance_shut.Reads as reads
-use Rattle.sheet.proofs.cut.advance_shut.Lts as lts
-use Rattle.sheet.proofs.cut.up_to.Reads as up-to-reads
 
 up-to-requires : tie.Need-up-to-requires
 up-to-requires c κs = search needs

@@ -1,7 +1,7 @@
-use mathlib.Core.Path.{sym, _∙_}
-use Rattle.grammar.proofs.Steps.{field-turn, field-end}
 -- `sheet::cut::cut_field` meets its contract. The invariant of its loop: the answer from byte i on is the answer from the start.
 -- Assumes nothing.
+use mathlib.Core.Path.{sym, _∙_}
+use Rattle.grammar.proofs.Steps.{field-turn, field-end}
 use Prim.Native.Nat.{_-_}
 use mathlib.Core.Path.{_≡_}
 use lib.ListN.{length, drop}

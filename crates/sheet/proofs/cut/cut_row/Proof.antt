@@ -1,9 +1,9 @@
+-- `sheet::cut::cut_row` meets its contract. The invariant of its loop: the answer from the field at i on is the answer from the start.
+-- Assumes nothing.
 use mathlib.Core.Path.{sym, _∙_}
 use native.Mathlib.Omega.{arith}
 use borrow.Author.Tests.{le-ltb}
 use Rattle.grammar.specs.Cut.{cutRow}
--- `sheet::cut::cut_row` meets its contract. The invariant of its loop: the answer from the field at i on is the answer from the start.
--- Assumes nothing.
 use Prim.Native.Nat.{_+_, _-_}
 use lib.ListN.{length}
 use Rattle.grammar.proofs.Steps.{RowSoFar, row-start, row-turn, row-more, field-within}
