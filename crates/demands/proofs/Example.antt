@@ -13,7 +13,7 @@ use Rattle.sound.specs.Reasons.{firstReason}
 use Rattle.record.specs.Steps.{reasonFor}
 use Rattle.serving.specs.Serving.{Granted, Denied, noCards, shownAfter, cardAfter, remember, Refusal, Passage, entry, entriesBy, entriesOf, recorded}
 use Rattle.printed.proofs.Examples.{site-of-01}
-use Rattle.serving.specs.WholeRun.{runOf01}
+use Rattle.demands.specs.WholeRun.{runOf01}
 
 -- a refusal at door 1 for reason 1, then a passage at door 0
 pub recorded-of-01 : recorded noCards runOf01 ≡ entry 1 0 (Denied 1) Refusal ∷ entry 0 0 Granted Passage ∷ []

@@ -37,7 +37,7 @@ use Rattle.says.specs.Site.{linesIn, readLines, judged, settled, afterHeader, s
 use Rattle.serving.specs.Serving.{Line, linesOf, heardOf, stepAt, ticked}
 use Rattle.serving.specs.Served.{Fresh}
 use Rattle.demands.specs.Cases.{withoutExit, exitsInACircle, withoutDoor, withoutRightOf0, withoutRightOf1, freshSite, reasonAt, phaseAt, cardAt, goesThrough, greenFor, TwelveCases}
-use Rattle.serving.specs.WholeRun.{runOf01, stepsIn}
+use Rattle.demands.specs.WholeRun.{runOf01, stepsIn}
 use Rattle.serving.proofs.Runs.{lineOf}
 use Rattle.printed.specs.Examples.{siteSheet}
 use Rattle.printed.proofs.Examples.{soundLast, sound-last, site-of-01}

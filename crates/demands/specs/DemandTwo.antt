@@ -34,7 +34,7 @@ use Rattle.chapter.specs.M4 as m4
 use Rattle.chapter.specs.Reading.{constantsOf, stateOf, StandsFor, Enabled, Idle, FirstFailing, RunOfEach}
 use Rattle.serving.specs.Serving.{heardOf}
 use Rattle.demands.specs.Cases.{freshSite}
-use Rattle.serving.specs.WholeRun.{runOf01, stepsIn}
+use Rattle.demands.specs.WholeRun.{runOf01, stepsIn}
 
 -- ---- the way outside
 

@@ -1,6 +1,5 @@
 -- Demand 3, as paper 01 and the letter write it: `Serving` says what a run records and how that is served, `Served` what holds of
--- it, `Warden` what follows for people, and `WholeRun` is the run that 01 prints.
+-- it, and `Warden` what follows for people.
 pub mod Serving
 pub mod Served
 pub mod Warden
-pub mod WholeRun
