@@ -2,7 +2,7 @@
 use Prim.Native.Nat.{ℕ}
 use mathlib.Core.Path.{_≡_, sym, subst}
 use mathlib.Core.Logic.{inl, inr, ⊎-elim}
-use Rattle.sound.proofs.Cases.{same-or-not}
+use Rattle.tables.proofs.Cases.{same-or-not}
 use Rattle.chapter.specs.Sets.{Set, Empty, only, _∪_, _∩_, _∖_, _≐_}
 
 -- ---- sets from which one number goes, or to which one comes

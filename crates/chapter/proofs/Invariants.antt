@@ -12,9 +12,9 @@ use Rattle.tables.specs.Tables.{mayBe, orElse, andAlso}
 use Rattle.tables.proofs.Laws.{and-left, and-right, and-both}
 use Rattle.record.specs.declared.record.Record.{Record}
 use Rattle.phases.specs.Phase.{free, read, granted, green, walked, expired, denied, red, dimmed, closed, keeps, grants}
-use Rattle.sound.specs.Grants.{GrantAt}
+use Rattle.granting.specs.Grants.{GrantAt}
 use Rattle.record.specs.Sound.{Sound}
-use Rattle.sound.proofs.Cases.{same-or-not, below-or-not, one-of}
+use Rattle.tables.proofs.Cases.{same-or-not, below-or-not, one-of}
 use Rattle.record.proofs.Right.{grants-keeps}
 use Rattle.chapter.specs.Sets.{dom, _∪_}
 use Rattle.chapter.specs.Reading.{constantsOf, isIn, DoorIn, CardAt, stateOf, stateOf3, stateOf2, stateOf1}

@@ -4,7 +4,7 @@ use mathlib.Core.Path.{_≡_, refl, sym, subst, ap, _∙_}
 use mathlib.Core.Logic.{_⊎_, inl, inr, ⊎-elim, ⊎-map, Iff·rfl}
 use borrow.Author.Tests.{eqb-true, ne-eqb}
 use lib.Dec.{eqb}
-use Rattle.sound.proofs.Cases.{either}
+use Rattle.tables.proofs.Cases.{either}
 use Rattle.chapter.specs.Sets.{Set, Relation, Partial, Empty, only, dom, ran, _∪_, _∩_, _∖_, _⊆_, _≐_}
 use Rattle.chapter.specs.Context.{Constants, Axioms}
 use Rattle.chapter.specs.Machines.{State, Same, _▹_, _∪=_, _∖=_, _⩥=_}

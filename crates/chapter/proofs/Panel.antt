@@ -8,20 +8,21 @@ use Rattle.record.specs.declared.record.Record.{Record}
 use Rattle.phases.specs.declared.table.Kind.{Kind}
 use Rattle.phases.specs.declared.answer.Answer.{Answer}
 use Rattle.phases.specs.declared.answer.Answer.the-variants.{Done, NoSuch, NotAllowed, TooShort, Unsound}
-use Rattle.phases.specs.Answers.{numberOf}
+use Rattle.phases.specs.Answers.{answerNo}
 use Rattle.record.specs.Doors.{Tables, tablesOf, Shaped}
 use Rattle.record.specs.Sound.{Sound}
 use Rattle.record.specs.Steps.{stepOf}
-use Rattle.record.specs.Run.{Row, rowOf, lastOf}
+use Rattle.record.specs.Run.{rowOf, lastOf}
+use Rattle.phases.specs.Kinds.{StepRow}
 use Rattle.record.proofs.Laws.{refused-stays, sound-stays, shaped-stays, tables-stay}
 use Rattle.chapter.specs.Context.{Constants, Axioms}
-use Rattle.chapter.specs.Machines.{Same, Step, event, skip, Run, stop, step, Keeps}
+use Rattle.chapter.specs.Machines.{Same, MachineStep, event, skip, Run, stop, step, Keeps}
 use Rattle.chapter.specs.M0 as m0
 use Rattle.chapter.specs.M1 as m1
 use Rattle.chapter.specs.M2 as m2
 use Rattle.chapter.specs.M3 as m3
 use Rattle.chapter.specs.M4 as m4
-use Rattle.chapter.specs.Reading.{siteOf, constantsOf, stateOf, Enabled, Idle, RunOfEach}
+use Rattle.chapter.specs.Reading.{constantsIn, constantsOf, stateOf, Enabled, Idle, RunOfEach}
 use Rattle.chapter.proofs.Site.{axioms}
 use Rattle.chapter.proofs.Invariants.{inv0, inv2, inv3, inv4}
 use Rattle.chapter.proofs.Refine.{same-refl, M0-keeps, M1-keeps, M1-refines-M0, M2-refines-M1, M3-refines-M2, M4-refines-M3, keeps-on, run-seen}
@@ -46,37 +47,37 @@ all-of r s = (((inv0 r s, inv2 r s), inv3 r s), inv4 r)
 
 done-or-not : (a : Answer) → (a ≡ Done) ⊎ (a ≡ Done → ⊥)
 done-or-not Done = inl refl
-done-or-not NoSuch = inr (λ e. omega (arith, ap numberOf e))
-done-or-not NotAllowed = inr (λ e. omega (arith, ap numberOf e))
-done-or-not TooShort = inr (λ e. omega (arith, ap numberOf e))
-done-or-not Unsound = inr (λ e. omega (arith, ap numberOf e))
+done-or-not NoSuch = inr (λ e. omega (arith, ap answerNo e))
+done-or-not NotAllowed = inr (λ e. omega (arith, ap answerNo e))
+done-or-not TooShort = inr (λ e. omega (arith, ap answerNo e))
+done-or-not Unsound = inr (λ e. omega (arith, ap answerNo e))
 
 pub idles : (r : Record) (k : Kind) (d p : ℕ) → Shaped r → Sound r → Idle r k d → Same (stateOf (stepOf r k d p .next)) (stateOf r)
 idles r k d p sh s i =
     subst (λ (x : Kind). Same (stateOf (stepOf r x d p .next)) (stateOf r)) (sym (i .tick)) (by-tick r sh s d p (i .exists) (i .green-on) (i .red-on))
 
 -- every step, refused or done, is one step of a run of the fourth refinement
-pub one-step : (r : Record) (k : Kind) (d p : ℕ) → Shaped r → Sound r → Step (m4.machine (constantsOf r)) (stateOf r) (stateOf (stepOf r k d p .next))
+pub one-step : (r : Record) (k : Kind) (d p : ℕ) → Shaped r → Sound r → MachineStep (m4.machine (constantsOf r)) (stateOf r) (stateOf (stepOf r k d p .next))
 one-step r k d p sh s = ⊎-elim (λ done. acts (enabled r sh s d p k done)) stays (done-or-not (stepOf r k d p .answer))
   where
-    acts : Enabled r k d p ⊎ Idle r k d → Step (m4.machine (constantsOf r)) (stateOf r) (stateOf (stepOf r k d p .next))
+    acts : Enabled r k d p ⊎ Idle r k d → MachineStep (m4.machine (constantsOf r)) (stateOf r) (stateOf (stepOf r k d p .next))
     acts (inl e) = event (e .event) (e .guard) (follows r sh s d p k (e .event) (e .stands) (e .guard) .1)
     acts (inr i) = skip (idles r k d p sh s i)
 
-    stays : (stepOf r k d p .answer ≡ Done → ⊥) → Step (m4.machine (constantsOf r)) (stateOf r) (stateOf (stepOf r k d p .next))
+    stays : (stepOf r k d p .answer ≡ Done → ⊥) → MachineStep (m4.machine (constantsOf r)) (stateOf r) (stateOf (stepOf r k d p .next))
     stays ne = skip (subst (λ (x : Record). Same (stateOf x) (stateOf r)) (sym (refused-stays r k d p ne)) (same-refl (stateOf r)))
 
-run4 : (r : Record) (rows : List Row) → Shaped r → Sound r → Run (m4.machine (constantsOf r)) (stateOf r) (stateOf (lastOf r rows))
+run4 : (r : Record) (rows : List StepRow) → Shaped r → Sound r → Run (m4.machine (constantsOf r)) (stateOf r) (stateOf (lastOf r rows))
 unfolding lastOf
 run4 r [] sh s = stop
 run4 r (row ∷ rows) sh s =
     let k = row .kind in
     step (one-step r k (row .at) (row .person) sh s)
-    (subst (λ (t : Tables). Run (m4.machine (siteOf t)) (stateOf (rowOf r row .next)) (stateOf (lastOf (rowOf r row .next) rows)))
+    (subst (λ (t : Tables). Run (m4.machine (constantsIn t)) (stateOf (rowOf r row .next)) (stateOf (lastOf (rowOf r row .next) rows)))
     (tables-stay r k (row .at) (row .person))
     (run4 (rowOf r row .next) rows (shaped-stays r k (row .at) (row .person) sh) (sound-stays r k (row .at) (row .person) sh s)))
 
-pub runs : (r : Record) (rows : List Row) → Shaped r → Sound r → RunOfEach r rows
+pub runs : (r : Record) (rows : List StepRow) → Shaped r → Sound r → RunOfEach r rows
 runs r rows sh s = record { fourth = fourth; third = third; second = second; first = first; initial = initial }
   where
     ax : Axioms (constantsOf r)
@@ -98,7 +99,7 @@ runs r rows sh s = record { fourth = fourth; third = third; second = second; fir
     initial = run-seen (M0-keeps _ ax) (M1-refines-M0 _ ax) (all-of r s .0 .0 .0, tt) first
 
 -- the record after a list of steps
-pub last-sound : (r : Record) (rows : List Row) → Shaped r → Sound r → Shaped (lastOf r rows) × Sound (lastOf r rows) × (tablesOf (lastOf r rows) ≡ tablesOf r)
+pub last-sound : (r : Record) (rows : List StepRow) → Shaped r → Sound r → Shaped (lastOf r rows) × Sound (lastOf r rows) × (tablesOf (lastOf r rows) ≡ tablesOf r)
 unfolding lastOf
 last-sound r [] sh s = (sh, s, refl)
 last-sound r (row ∷ rows) sh s =

@@ -4,7 +4,7 @@ use mathlib.Core.Path.{_≡_, refl, sym, _∙_}
 use mathlib.Core.Logic.{inl, inr, ⊎-map, _↔_, Iff·rfl, Iff·trans}
 use Rattle.chapter.specs.Sets.{Set, Relation, _∪_, _≐_}
 use Rattle.chapter.specs.Context.{Constants, Axioms}
-use Rattle.chapter.specs.Machines.{Names, State, Same, Machine, Origin, new, refines, Seen, Keeps, Refines, Step, event, skip, Run, stop, step}
+use Rattle.chapter.specs.Machines.{Names, State, Same, Machine, Origin, new, refines, Seen, Keeps, Refines, MachineStep, event, skip, Run, stop, step}
 use Rattle.chapter.specs.M0 as m0
 use Rattle.chapter.specs.M1 as m1
 use Rattle.chapter.specs.M2 as m2
@@ -110,11 +110,11 @@ module _ (c : Constants) (ax : Axioms c) where
   pub M3-refines-M2 : Refines (m2.machine c) (m3.machine c) m3.see m3.from (m2.All c) (m3.Inv c)
   M3-refines-M2 =
       record {
-        starts = λ s h. record { sit = h .sit; sets = λ X. h .sets (m3.setOf X); maps = λ f. h .maps (m3.mapOf f) };
+        starts = λ s h. record { sit = h .sit; sets = λ X. h .sets (m3.setNamed X); maps = λ f. h .maps (m3.mapNamed f) };
         simulates = simulates;
         begins = begins3 c;
         keeps = λ s e b i g. keeps3 c s e (b .1) i g;
-        see-same = λ s t m. record { sit = m .sit; set = λ X. m .set (m3.setOf X); map = λ f. m .map (m3.mapOf f) };
+        see-same = λ s t m. record { sit = m .sit; set = λ X. m .set (m3.setNamed X); map = λ f. m .map (m3.mapNamed f) };
         inv-same = same3 c;
       }
     where
@@ -218,7 +218,7 @@ same-trans a b =
       map = λ f x y. Iff·trans (a .map f x y) (b .map f x y);
     }
 
-seen-step : (m : Machine) (s t u : State (m .names)) (o : Origin (m .Event)) → Seen m s u o → Same t u → Step m s t
+seen-step : (m : Machine) (s t u : State (m .names)) (o : Origin (m .Event)) → Seen m s u o → Same t u → MachineStep m s t
 seen-step m s t u new seen same = skip (same-trans same seen)
 seen-step m s t u (refines e) seen same = event e (seen .0) (same-trans same (seen .1))
 
@@ -237,7 +237,7 @@ module _ {a c : Machine} {see : State (c .names) → State (a .names)} {from : c
         same = λ s t m i. (k .same (see s) (see t) (r .see-same s t m) (i .0), r .inv-same s t m (i .1));
       }
 
-  step-seen : (s t : State (c .names)) → Before (see s) × Inv s → Step c s t → Step a (see s) (see t)
+  step-seen : (s t : State (c .names)) → Before (see s) × Inv s → MachineStep c s t → MachineStep a (see s) (see t)
   step-seen s t i (event e g m) =
       seen-step a (see s) (see t) (see (c .action s e)) (from e) (r .simulates s e (i .0) (i .1) g) (r .see-same (c .action s e) t m)
   step-seen s t i (skip m) = skip (r .see-same s t m)
@@ -247,6 +247,6 @@ module _ {a c : Machine} {see : State (c .names) → State (a .names)} {from : c
   run-seen i stop = stop
   run-seen {s} i (step {t} e run) = step (step-seen s t i e) (run-seen (step-keeps t e) run)
     where
-      step-keeps : (t : State (c .names)) → Step c s t → Before (see t) × Inv t
+      step-keeps : (t : State (c .names)) → MachineStep c s t → Before (see t) × Inv t
       step-keeps t (event e g m) = keeps-on .same (c .action s e) t m (keeps-on .keeps s e i g)
       step-keeps t (skip m) = keeps-on .same s t m i

@@ -17,7 +17,7 @@ use Rattle.tables.proofs.Laws.{and-left, and-right, clash, may-be-outside}
 use Rattle.tables.proofs.WayOut.{way-is-safe}
 use Rattle.record.specs.declared.record.Record.{Record}
 use Rattle.record.specs.Sound.{Sound, rightAt}
-use Rattle.sound.proofs.Cases.{same-or-not, below-or-not}
+use Rattle.tables.proofs.Cases.{same-or-not, below-or-not}
 use Rattle.chapter.specs.Sets.{Set, only, _∖_, _⊆_}
 use Rattle.chapter.specs.Context.{Constants, Axioms, SAF-1, SAF-2, SAF-3, Leads}
 use Rattle.chapter.specs.Reading.{constantsOf}

@@ -18,7 +18,7 @@ use Rattle.record.specs.Doors.{freshRecord, Shaped}
 use Rattle.phases.specs.Kinds.{allows, numberOfKind}
 use Rattle.record.specs.Sound.{Sound}
 use Rattle.record.specs.Steps.{First, stepOf}
-use Rattle.sound.proofs.Cases.{same-or-not}
+use Rattle.tables.proofs.Cases.{same-or-not}
 use Rattle.record.proofs.Laws.{Allowed, done-did, denied-first}
 use Rattle.record.proofs.Fresh.{fresh-free, fresh-outside}
 use Rattle.chapter.specs.Sets.{dom, _∪_}

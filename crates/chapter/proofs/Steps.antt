@@ -16,11 +16,11 @@ use Rattle.phases.specs.Phase.{free, read, granted, green, walked, expired, den
 use Rattle.door.specs.Door.{door, freeDoor}
 use Rattle.record.specs.Doors.{doorOf, Shaped}
 use Rattle.phases.specs.Kinds.{allows, namesPerson, numberOfKind}
-use Rattle.sound.specs.Grants.{GrantAt}
+use Rattle.granting.specs.Grants.{GrantAt}
 use Rattle.record.specs.Sound.{Sound}
 use Rattle.door.specs.Does.{effect}
 use Rattle.record.specs.Steps.{reasonFor, Admitted, doing, stepOf}
-use Rattle.sound.proofs.Cases.{same-or-not, one-of}
+use Rattle.tables.proofs.Cases.{same-or-not, one-of}
 use Rattle.record.proofs.Tells.{sound-tells}
 use Rattle.record.proofs.Right.{admitted, admits}
 use Rattle.record.proofs.Laws.{Allowed, allowed-does, act-done, done-did, tables-stay, others-stay, places-stay, passed-moves, becomes, door-after, tick-done}

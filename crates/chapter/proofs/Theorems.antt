@@ -29,7 +29,8 @@ use Rattle.phases.specs.declared.answer.Answer.the-variants.{Done}
 use Rattle.record.specs.Doors.{Tables, freshRecord, Shaped}
 use Rattle.record.specs.Sound.{Sound}
 use Rattle.record.specs.Steps.{stepOf}
-use Rattle.record.specs.Run.{Row, lastOf}
+use Rattle.record.specs.Run.{lastOf}
+use Rattle.phases.specs.Kinds.{StepRow}
 use Rattle.record.proofs.Laws.{refused-stays}
 use Rattle.chapter.specs.Context.{Constants, Axioms, SAF-1, SAF-2, SAF-3, Leads}
 use Rattle.chapter.specs.Machines.{State, Same}
@@ -40,7 +41,7 @@ use Rattle.chapter.specs.M2 as m2
 use Rattle.chapter.specs.M3 as m3
 use Rattle.chapter.specs.M3.{dap}
 use Rattle.chapter.specs.M4 as m4
-use Rattle.chapter.specs.Reading.{siteOf, constantsOf, stateOf, StandsFor, Enabled, Idle, FirstFailing, RunOfEach}
+use Rattle.chapter.specs.Reading.{constantsIn, constantsOf, stateOf, StandsFor, Enabled, Idle, FirstFailing, RunOfEach}
 use Rattle.chapter.proofs.Site.{axioms, saf-1, saf-2, saf-3, way-leads}
 use Rattle.chapter.proofs.Steps.{follows, enabled, ticks}
 use Rattle.chapter.proofs.Stands.{stands-once, idle-stands, some-event, fresh-starts, first-failing}
@@ -121,20 +122,20 @@ starts-each c ax s h =
     (third, second, refine.M2-refines-M1 c ax .starts (m3.see (m4.see s)) second)
 
 -- Any list of steps, done or refused, is a run of each machine.
-pub panel-runs : (r : Record) → Shaped r → Sound r → (rows : List Row) → RunOfEach r rows
+pub panel-runs : (r : Record) → Shaped r → Sound r → (rows : List StepRow) → RunOfEach r rows
 panel-runs r sh s rows = panel.runs r rows sh s
 
 -- ---- safety
 
 -- FUN-3: "A person which is in a location must be authorized to be there", after any list of steps.
-pub nobody-astray : (r : Record) → Shaped r → Sound r → (rows : List Row) (p : ℕ) → constantsOf r .P p → constantsOf r .aut p (stateOf (lastOf r rows) .sit p)
+pub nobody-astray : (r : Record) → Shaped r → Sound r → (rows : List StepRow) (p : ℕ) → constantsOf r .P p → constantsOf r .aut p (stateOf (lastOf r rows) .sit p)
 nobody-astray r sh s rows p h =
     let after = panel.last-sound r rows sh s in
     let there = invariants-hold (lastOf r rows) (after .1) .0 .0 .0 .inv0-2 in
-    subst (λ (t : Tables). (q : ℕ) → siteOf t .P q → siteOf t .aut q (stateOf (lastOf r rows) .sit q)) (after .2) there p h
+    subst (λ (t : Tables). (q : ℕ) → constantsIn t .P q → constantsIn t .aut q (stateOf (lastOf r rows) .sit q)) (after .2) there p h
 
 -- SAF-1: "No persons must remain blocked in a location", after any list of steps.
-pub nobody-blocked : (r : Record) → Shaped r → Sound r → (rows : List Row) → SAF-1 (constantsOf r) (stateOf (lastOf r rows) .sit)
+pub nobody-blocked : (r : Record) → Shaped r → Sound r → (rows : List StepRow) → SAF-1 (constantsOf r) (stateOf (lastOf r rows) .sit)
 nobody-blocked r sh s rows = saf-1 (constantsOf r) (axioms r s) (stateOf (lastOf r rows) .sit) (nobody-astray r sh s rows)
 
 -- SAF-2 and SAF-3, of every sound record's tables.
@@ -142,7 +143,7 @@ pub nobody-confined : (r : Record) → Sound r → SAF-2 (constantsOf r) × SAF-
 nobody-confined r s = (saf-2 (constantsOf r) (axioms r s), saf-3 r s)
 
 -- After any list of steps, the signed way leads everybody outside from where they are, by locations that they may be in.
-pub led-outside : (r : Record) → Shaped r → Sound r → (rows : List Row) (p : ℕ) → constantsOf r .P p
+pub led-outside : (r : Record) → Shaped r → Sound r → (rows : List StepRow) (p : ℕ) → constantsOf r .P p
     → Leads (constantsOf r) p (stateOf (lastOf r rows) .sit p) (wayOf (r .locations) (r .exit) (stateOf (lastOf r rows) .sit p))
 led-outside r sh s rows p h = way-leads r s p (stateOf (lastOf r rows) .sit p) h (nobody-astray r sh s rows p h .2)
 

@@ -10,8 +10,8 @@ use Rattle.door.specs.declared.Door.{Door}
 use Rattle.record.specs.declared.record.Record.{Record}
 use Rattle.phases.specs.Phase.{read, grants}
 use Rattle.record.specs.Doors.{Tables, tablesOf, doorOf}
-use Rattle.sound.specs.Grants.{GrantAt}
-use Rattle.sound.proofs.Cases.{same-or-not}
+use Rattle.granting.specs.Grants.{GrantAt}
+use Rattle.tables.proofs.Cases.{same-or-not}
 use Rattle.chapter.specs.Sets.{Set, Relation, only, _∪_, _∖_, _≐_}
 use Rattle.chapter.specs.Reading.{isIn, DoorIn, CardAt}
 use Rattle.chapter.specs.M4.{Sets, setNo, BLR, mAckn, mAccept, GRN, mPass, mOff-grn, mRefuse, RED, mOff-red}

@@ -95,15 +95,15 @@ from (off-red d) = refines (m2.off-red d)
 from (ACKN d) = new
 
 -- the variables of the second refinement: each is itself
-abbrev pub setOf : m2.Sets → Sets
-setOf m2.grn = grn
-setOf m2.red = red
+abbrev pub setNamed : m2.Sets → Sets
+setNamed m2.grn = grn
+setNamed m2.red = red
 
-abbrev pub mapOf : m2.Maps → Maps
-mapOf m2.dap = dap
+abbrev pub mapNamed : m2.Maps → Maps
+mapNamed m2.dap = dap
 
 abbrev pub see : State names → State m2.names
-see s = record { sit = s .sit; set = λ X. s .set (setOf X); map = λ f. s .map (mapOf f) }
+see s = record { sit = s .sit; set = λ X. s .set (setNamed X); map = λ f. s .map (mapNamed f) }
 
 -- the invariants of this machine and of those before
 abbrev pub All : Constants → State names → Type 0

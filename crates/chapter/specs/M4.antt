@@ -123,14 +123,14 @@ from (off-red d) = refines (m3.off-red d)
 from (ACKN d) = refines (m3.ACKN d)
 
 -- the variables of the third refinement, grn and red by inv4-1 and inv4-5
-abbrev pub setOf : (Sets → Set) → m3.Sets → Set
-setOf sets m3.grn = sets mAccept ∪ sets mPass ∪ sets mOff-grn
-setOf sets m3.red = sets mRefuse ∪ sets mOff-red
-setOf sets m3.BLR = sets BLR
-setOf sets m3.mAckn = sets mAckn
+abbrev pub setMadeOf : (Sets → Set) → m3.Sets → Set
+setMadeOf sets m3.grn = sets mAccept ∪ sets mPass ∪ sets mOff-grn
+setMadeOf sets m3.red = sets mRefuse ∪ sets mOff-red
+setMadeOf sets m3.BLR = sets BLR
+setMadeOf sets m3.mAckn = sets mAckn
 
 abbrev pub see : State names → State m3.names
-see s = record { sit = s .sit; set = setOf (s .set); map = s .map }
+see s = record { sit = s .sit; set = setMadeOf (s .set); map = s .map }
 
 -- the invariants of this machine and of those before
 abbrev pub All : Constants → State names → Type 0

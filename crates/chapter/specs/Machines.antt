@@ -84,13 +84,13 @@ pub record Machine : Type 1 where
   pub action : State names → Event → State names
 
 -- One step of a run: an event that its guard allows, or nothing.
-pub data Step (m : Machine) (s t : State (m .names)) : Type 0 where
-  event : (e : m .Event) → m .Guard s e → Same t (m .action s e) → Step m s t
-  skip : Same t s → Step m s t
+pub data MachineStep (m : Machine) (s t : State (m .names)) : Type 0 where
+  event : (e : m .Event) → m .Guard s e → Same t (m .action s e) → MachineStep m s t
+  skip : Same t s → MachineStep m s t
 
 pub data Run (m : Machine) : State (m .names) → State (m .names) → Type 1 where
   stop : {s : State (m .names)} → Run m s s
-  step : {s : State (m .names)} {t : State (m .names)} {u : State (m .names)} → Step m s t → Run m t u → Run m s u
+  step : {s : State (m .names)} {t : State (m .names)} {u : State (m .names)} → MachineStep m s t → Run m t u → Run m s u
 
 -- ---- refinement
 

@@ -13,8 +13,9 @@ use Rattle.phases.specs.declared.table.Kind.{Kind}
 use Rattle.phases.specs.declared.table.Kind.the-variants.{Card, Decide, Green, Red, Walk, Tick, Passed, Lapsed, Dark, Ack}
 use Rattle.phases.specs.Phase.{free, read, granted, green, walked, expired, denied, red, dimmed, closed}
 use Rattle.record.specs.Doors.{Tables, tablesOf}
-use Rattle.sound.specs.Grants.{GrantAt}
-use Rattle.record.specs.Run.{Row, lastOf}
+use Rattle.granting.specs.Grants.{GrantAt}
+use Rattle.record.specs.Run.{lastOf}
+use Rattle.phases.specs.Kinds.{StepRow}
 use Rattle.chapter.specs.Sets.{dom}
 use Rattle.chapter.specs.Context.{Constants}
 use Rattle.chapter.specs.Machines.{State, Run}
@@ -31,8 +32,8 @@ use Rattle.chapter.specs.M4 as m4
 -- ---- the constants of a site
 
 -- "All are numbered from 0. Location 0 is outside."
-abbrev pub siteOf : Tables → Constants
-siteOf t =
+abbrev pub constantsIn : Tables → Constants
+constantsIn t =
     record {
       P = λ p. p < t .people;
       L = λ l. l < t .locations;
@@ -46,7 +47,7 @@ siteOf t =
     }
 
 abbrev pub constantsOf : Record → Constants
-constantsOf r = siteOf (tablesOf r)
+constantsOf r = constantsIn (tablesOf r)
 
 -- ---- the state of a record
 
@@ -144,7 +145,7 @@ pub data FirstFailing (c : Constants) (s : State m4.names) (p d : ℕ) : ℕ →
 -- ---- a run of the panel
 
 -- The steps of a list from record r on are, seen through the readings, a run of each machine.
-pub record RunOfEach (r : Record) (rows : List Row) : Type 1 where
+pub record RunOfEach (r : Record) (rows : List StepRow) : Type 1 where
   pub fourth : Run (m4.machine (constantsOf r)) (stateOf r) (stateOf (lastOf r rows))
   pub third : Run (m3.machine (constantsOf r)) (stateOf3 r) (stateOf3 (lastOf r rows))
   pub second : Run (m2.machine (constantsOf r)) (stateOf2 r) (stateOf2 (lastOf r rows))

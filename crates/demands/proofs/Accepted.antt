@@ -5,9 +5,9 @@ use mathlib.Core.List.{List}
 use Rattle.record.specs.declared.record.Record.{Record}
 use Rattle.record.specs.Doors.{freshRecord}
 use Rattle.verdict.specs.declared.Verdict.the-variants.{Accepted}
-use Rattle.says.specs.Site.{siteOf}
-use Rattle.says.proofs.Theorems.{accepted-holds}
-use Rattle.serving.specs.Served.{Fresh}
+use Rattle.site_sheet.specs.Site.{siteOf}
+use Rattle.site_sheet.proofs.Theorems.{accepted-holds}
+use Rattle.card_by_card.specs.Served.{Fresh}
 
 -- the record of an accepted sheet is fresh
 pub accepted-fresh : (s : List ℕ) → siteOf s .verdict ≡ Accepted → Fresh (siteOf s .«record»)

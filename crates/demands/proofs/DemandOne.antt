@@ -36,8 +36,8 @@ use Rattle.tables.specs.declared.Found.{Found}
 use Rattle.tables.specs.declared.Found.the-variants.{At, Nothing}
 use Rattle.tables.specs.declared.RightFound.{RightFound}
 use Rattle.tables.specs.declared.RightFound.the-variants as pair
-use Rattle.tables.specs.Tests.{lacksExit, firstNoExit, strays, firstStray, lacksDoor, firstNoDoor, firstNoRight, shutOut, firstShutOut, countsFit, inRange, lawfulB}
-use Rattle.tables.specs.Way.{wayOf, ifRoom, told, written}
+use Rattle.tables.specs.Tests.{lacksExit, firstNoExit, strays, firstStray, lacksDoor, firstNoDoor, firstNoRight, shutOut, firstShutOut, countsFit, planInRange, lawfulB}
+use Rattle.tables.specs.Way.{wayOf, ifRoom, wayToldIn, wayWrittenIn}
 use Rattle.tables.proofs.Laws.{and-left, and-right, and-both, clash, least-at, may-be-outside, tell-le, tell-and, tell-as}
 use Rattle.tables.proofs.Answers.{in-range-tells, rule-9, lawful-tells}
 use Rattle.tables.proofs.WayOut.{way-at-most-31}
@@ -47,34 +47,35 @@ use Rattle.phases.specs.declared.table.Kind.the-variants.{Card, Decide, Green, 
 use Rattle.door.specs.declared.Door.{Door}
 use Rattle.phases.specs.declared.answer.Answer.{Answer}
 use Rattle.phases.specs.declared.answer.Answer.the-variants.{NoSuch, NotAllowed, Unsound}
-use Rattle.phases.specs.Answers.{numberOf}
+use Rattle.phases.specs.Answers.{answerNo}
 use Rattle.phases.specs.Phase.{green, denied, red}
 use Rattle.record.specs.Doors.{doorOf, Shaped}
-use Rattle.sound.specs.Grants.{grantOf}
+use Rattle.granting.specs.Grants.{grantOf}
 use Rattle.phases.specs.Kinds.{kindOf, allows, namesPerson}
-use Rattle.sound.specs.SoundTest.{listsSound}
+use Rattle.soundness.specs.SoundTest.{listsSound}
 use Rattle.record.specs.SoundTest.{soundB}
 use Rattle.door.specs.declared.does.Does.{Does}
 use Rattle.door.specs.declared.does.Does.the-variants.{Stays, Turns, Moves}
 use Rattle.door.specs.Does.{effect}
 use Rattle.record.specs.Steps.{reasonFor, act, refused, doing, exist, soundStep, stepOf}
 use Rattle.record.specs.Run.{roomFor, roomIn, ranOf, tellingOf}
-use Rattle.record.specs.Questions.{placeOf, grantFound, grantedTo, grantNumber, grantTold, wayAnswerOf, wayWritten}
-use Rattle.sound.proofs.Cases.{either}
+use Rattle.record.specs.Questions.{placeOf, grantFound, grantedTo, grantNo, grantTold, wayAnswerOf, wayWritten}
+use Rattle.tables.proofs.Cases.{either}
 use Rattle.record.proofs.Keep.{put-same}
 use Rattle.record.proofs.Fresh.{fresh-sound}
 use Rattle.record.proofs.Tells.{sound-tells}
 use Rattle.record.proofs.Laws.{act-done}
 use Rattle.verdict.specs.declared.Verdict.{Verdict}
 use Rattle.verdict.specs.declared.Verdict.the-variants.{Accepted, TooLong, BadRow, OutOfRange, Twice, NoSite, NoExit, Stray, NoDoor, NoRight, ShutOut}
-use Rattle.says.specs.declared.SiteRead.{SiteRead}
-use Rattle.says.specs.declared.Reading.{Reading}
-use Rattle.says.specs.declared.Draft.{Draft}
-use Rattle.says.specs.Line.{headerAt}
-use Rattle.says.specs.Site.{limit, soundFault, firstPlace, secondPlace, blankRecord, acceptedSite, unlessFound, unlessPair, judged, settled, afterHeader, siteOf}
-use Rattle.says.specs.Site as site
-use Rattle.says.proofs.Theorems.{given-exactly}
-use Rattle.demands.specs.DemandOne.{Told, Within, Lies, FieldTold, RowTold, CountTold, SheetAnswers, WayTells, RulesAnswers}
+use Rattle.site_sheet.specs.declared.SiteRead.{SiteRead}
+use Rattle.site_sheet.specs.declared.Reading.{Reading}
+use Rattle.site_sheet.specs.declared.Draft.{Draft}
+use Rattle.site_sheet.specs.Line.{siteHeaderAt}
+use Rattle.site_sheet.specs.Site.{soundFault, firstPlace, secondPlace, blankRecord, acceptedSite, unlessFound, unlessPair, judged, settled, afterHeader, siteOf}
+use Rattle.grammar.specs.Sizes.{limit}
+use Rattle.site_sheet.specs.Site as site
+use Rattle.site_sheet.proofs.Theorems.{given-exactly}
+use Rattle.demands.specs.DemandOne.{NumberBy, Within, Lies, FieldTold, RowTold, CountTold, SheetAnswers, WayTells, RulesAnswers}
 use Rattle.demands.specs.DemandOne.{Exists, stepOrder, StepTells, Room, RunTells, PlaceTells, GrantTells, WayOutTells, RecordAnswers, SiteTells, SiteAnswers}
 
 -- ---- crate `sheet`
@@ -175,7 +176,7 @@ number-small : (s : List ℕ) (cell : Cell) (n : ℕ) → numberAt s cell ≡ Is
 unfolding numberAt
 number-small s cell n = go (cell .doubled)
   where
-    go : (b : Bool) → cond b None (say.numberOf (contentAt s cell)) ≡ Is n → n ≤ 999
+    go : (b : Bool) → cond b None (say.numberIn (contentAt s cell)) ≡ Is n → n ≤ 999
     go true e = let z : _≡_ {A = ℕ} 0 1 = cc in absurd (omega arith)
     go false e = small (contentAt s cell) n (read-proper (contentAt s cell) e)
 
@@ -226,7 +227,7 @@ of-sheet =
 
 -- a way is told and written where the list has room for it, and else neither
 way-tells : (way list : List ℕ) → length way ≤ 31 → WayTells way list
-unfolding told written ifRoom
+unfolding wayToldIn wayWrittenIn ifRoom
 way-tells way list most =
     record {
       short = λ h. let e = lt-leb (length way) (length list) h in (rw e, rw e);
@@ -308,8 +309,8 @@ act-reason r Ack d p why c some = absurd (some refl)
 act-reason r Unknown d p why c some = absurd (some refl)
 
 -- two answers of different numbers
-apart : {X : Type 0} {a b : Answer} → (numberOf a ≡ numberOf b → ⊥) → a ≡ b → X
-apart ne e = absurd (ne (ap numberOf e))
+apart : {X : Type 0} {a b : Answer} → (answerNo a ≡ answerNo b → ⊥) → a ≡ b → X
+apart ne e = absurd (ne (ap answerNo e))
 
 -- no refusal's number is 0
 eleven : _≡_ {A = ℕ} 11 0 → ⊥
@@ -322,7 +323,7 @@ fourteen : _≡_ {A = ℕ} 14 0 → ⊥
 fourteen e = omega arith
 
 module _ (r : Record) (k : Kind) (d p : ℕ) where
-  refused-tells : (a : Answer) (ph : ℕ) → Told (stepOrder r k d p) (numberOf a) → (numberOf a ≡ 0 → ⊥) → (a ≡ NotAllowed → ph ≡ getD (r .phase) d 0)
+  refused-tells : (a : Answer) (ph : ℕ) → NumberBy (stepOrder r k d p) (answerNo a) → (answerNo a ≡ 0 → ⊥) → (a ≡ NotAllowed → ph ≡ getD (r .phase) d 0)
       → ((a ≡ NoSuch) ⊎ (a ≡ Unsound) → ph ≡ 0) → StepTells r k d p (refused r a ph)
   refused-tells a ph number some allowed there =
       record {
@@ -335,7 +336,7 @@ module _ (r : Record) (k : Kind) (d p : ℕ) where
         a-reason = λ reason. absurd (reason refl);
       }
 
-  done-tells : Told (stepOrder r k d p) 0 → soundB r ≡ true → d < r .doors → StepTells r k d p (act r d (doing r k d p))
+  done-tells : NumberBy (stepOrder r k d p) 0 → soundB r ≡ true → d < r .doors → StepTells r k d p (act r d (doing r k d p))
   done-tells number s h =
       let is = act-done r d (doing r k d p) in
       record {
@@ -422,7 +423,7 @@ module _ (r : Record) (p : ℕ) where
   unfolding grantedTo
   grant-tells = go (soundB r) refl (ltb p (r .people)) refl
     where
-      found : (x : Found) → (grantNumber (grantFound x) ≡ 0) × (grantTold (grantFound x) ≡ x)
+      found : (x : Found) → (grantNo (grantFound x) ≡ 0) × (grantTold (grantFound x) ≡ x)
       found (At d) = (refl, refl)
       found Nothing = (refl, refl)
 
@@ -448,7 +449,7 @@ module _ (r : Record) (l : ℕ) (list : List ℕ) where
   way = wayOf (r .locations) (r .exit) l
 
   way-out-tells : WayOutTells r l list
-  unfolding wayAnswerOf wayWritten told written ifRoom
+  unfolding wayAnswerOf wayWritten wayToldIn wayWrittenIn ifRoom
   way-out-tells = go (soundB r) refl (ltb l (r .locations)) refl (leb (length way) (length list)) refl
     where
       go : (s : Bool) → soundB r ≡ s → (b : Bool) → ltb l (r .locations) ≡ b → (q : Bool) → leb (length way) (length list) ≡ q → WayOutTells r l list
@@ -511,7 +512,7 @@ of-record =
 
 -- ---- crate `site`
 
-pub number-most : (v : Verdict) → site.numberOf v ≤ 10
+pub number-most : (v : Verdict) → site.verdictNo v ≤ 10
 number-most Accepted = omega arith
 number-most TooLong = omega arith
 number-most (BadRow n) = omega arith
@@ -524,7 +525,7 @@ number-most (NoDoor l) = omega arith
 number-most (NoRight p l) = omega arith
 number-most (ShutOut p) = omega arith
 
-place-told : (v : Verdict) → (site.numberOf v ≤ 1 → firstPlace v ≡ 0) × (site.numberOf v ≡ 5 → firstPlace v ≡ 1)
+place-told : (v : Verdict) → (site.verdictNo v ≤ 1 → firstPlace v ≡ 0) × (site.verdictNo v ≡ 5 → firstPlace v ≡ 1)
 place-told Accepted = ((λ _. refl), λ e. absurd (omega arith))
 place-told TooLong = ((λ _. refl), λ e. absurd (omega arith))
 place-told (BadRow n) = ((λ h. absurd (omega arith)), λ e. absurd (omega arith))
@@ -537,7 +538,7 @@ place-told (NoDoor l) = ((λ h. absurd (omega arith)), λ e. absurd (omega arith
 place-told (NoRight p l) = ((λ h. absurd (omega arith)), λ e. absurd (omega arith))
 place-told (ShutOut p) = ((λ h. absurd (omega arith)), λ e. absurd (omega arith))
 
-second-told : (v : Verdict) → (site.numberOf v ≡ 9 → ⊥) → secondPlace v ≡ 0
+second-told : (v : Verdict) → (site.verdictNo v ≡ 9 → ⊥) → secondPlace v ≡ 0
 second-told Accepted n = refl
 second-told TooLong n = refl
 second-told (BadRow k) n = refl
@@ -552,7 +553,7 @@ second-told (ShutOut p) n = refl
 
 -- a sheet that isn't accepted gives the blank record
 abbrev Blank : SiteRead → Type 0
-Blank x = (site.numberOf (x .verdict) ≡ 0 → ⊥) → x .«record» ≡ blankRecord
+Blank x = (site.verdictNo (x .verdict) ≡ 0 → ⊥) → x .«record» ≡ blankRecord
 
 found-blank : (x : Found) (refusal : ℕ → Verdict) (on : SiteRead) → Blank on → Blank (unlessFound x refusal on)
 found-blank (At k) refusal on b some = refl
@@ -579,7 +580,7 @@ settled-blank x some =
 
 header-blank : (s : List ℕ) (cut : RowCut) → Blank (afterHeader s cut)
 unfolding afterHeader
-header-blank s (Cut cells next) some = either Blank (headerAt s cells) (λ _. settled-blank _) (λ _ _. refl) some
+header-blank s (Cut cells next) some = either Blank (siteHeaderAt s cells) (λ _. settled-blank _) (λ _ _. refl) some
 header-blank s NoRow some = refl
 header-blank s (Broken byte) some = refl
 
@@ -589,7 +590,7 @@ site-blank s some = either Blank (ltb limit (length s)) (λ _ _. refl) (λ _. he
 
 -- which isn't sound: it has no people
 blank-unsound : soundB blankRecord ≡ true → ⊥
-unfolding soundB listsSound lawfulB inRange countsFit andAlso
+unfolding soundB listsSound lawfulB planInRange countsFit andAlso
 blank-unsound e = false≢true e
 
 site-tells : (s : List ℕ) → SiteTells s

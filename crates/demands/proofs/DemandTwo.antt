@@ -12,7 +12,7 @@ use lib.Seq.{set-getD}
 use lib.Dec.{eqb, ltb}
 use Rattle.tables.specs.Tables.{orElse, andAlso}
 use Rattle.tables.proofs.Laws.{clash}
-use Rattle.tables.specs.Way.{wayOf, ifRoom, told, written}
+use Rattle.tables.specs.Way.{wayOf, ifRoom, wayToldIn, wayWrittenIn}
 use Rattle.tables.proofs.WayOut.{the-way}
 use Rattle.door.specs.declared.Door.{Door}
 use Rattle.record.specs.declared.record.Record.{Record}
@@ -23,28 +23,28 @@ use Rattle.record.specs.declared.steps.Step.{Step}
 use Rattle.record.specs.declared.questions.WayAnswer.the-variants.{Length}
 use Rattle.phases.specs.Phase.{free, read, granted, green, walked, expired, denied, red, dimmed, closed}
 use Rattle.record.specs.Doors.{doorOf, Tables, putDoor, Shaped}
-use Rattle.phases.specs.Kinds.{allows, namesPerson}
+use Rattle.phases.specs.Kinds.{StepRow, allows, namesPerson}
 use Rattle.record.specs.Sound.{Sound}
 use Rattle.door.specs.declared.does.Does.{Does}
 use Rattle.door.specs.Does.{burns, effect}
 use Rattle.record.specs.Steps.{reasonFor, Admitted, act, doing, stepOf, exist}
-use Rattle.record.specs.Run.{Row, lastOf}
+use Rattle.record.specs.Run.{lastOf}
 use Rattle.record.specs.Questions.{wayAnswerOf, wayWritten}
-use Rattle.sound.proofs.Cases.{either}
+use Rattle.tables.proofs.Cases.{either}
 use Rattle.record.proofs.Ask.{place-is-location, way-out-safe, way-out-short}
 use Rattle.record.proofs.Right.{admitted}
 use Rattle.record.proofs.Tells.{sound-tells}
 use Rattle.record.proofs.Laws.{done-did, barred-12, act-done, becomes, door-after, sound-stays, shaped-stays, tables-stay, run-sound, run-shaped, run-tables}
 use Rattle.record.proofs.Laws.{denied-first, granted-exactly, green-burns, green-expires, red-burns, red-dims}
 use Rattle.verdict.specs.declared.Verdict.the-variants.{Accepted}
-use Rattle.says.specs.Site.{siteOf}
-use Rattle.says.proofs.Theorems.{accepted-holds}
+use Rattle.site_sheet.specs.Site.{siteOf}
+use Rattle.site_sheet.proofs.Theorems.{accepted-holds}
 use Rattle.chapter.proofs.Theorems.{fresh-reads, step-acts, step-follows, tick-idles, refusal-alters-nothing, stands-for-one, idle-stands-for-none, denial-first}
 use Rattle.chapter.specs.M4 as m4
 use Rattle.chapter.specs.Reading.{constantsOf, stateOf}
 use Rattle.demands.specs.DemandTwo.{WayOutside, StepIsEvent, Light, Decided, NothingToAlter, no-light, green-whole, red-whole, GreenCounts, RedCounts}
 use Rattle.demands.proofs.DemandOne.{of-record}
-use Rattle.serving.proofs.Serial.{step-done}
+use Rattle.card_by_card.proofs.Serial.{step-done}
 
 -- ---- the way outside
 
@@ -52,7 +52,7 @@ use Rattle.serving.proofs.Serial.{step-done}
 way-told : (r : Record) → Shaped r → Sound r → (l : ℕ) → l < r .locations → (list : List ℕ) → length (wayOf (r .locations) (r .exit) l) ≤ length list
     → (wayAnswerOf r l list ≡ Length (length (wayOf (r .locations) (r .exit) l)))
     × (wayWritten r l list ≡ wayOf (r .locations) (r .exit) l ++ drop (length (wayOf (r .locations) (r .exit) l)) list)
-unfolding wayAnswerOf wayWritten told written ifRoom
+unfolding wayAnswerOf wayWritten wayToldIn wayWrittenIn ifRoom
 way-told r sh s l h list room =
     let t = sound-tells r sh .back s in
     let e = lt-ltb l (r .locations) h in
@@ -71,7 +71,7 @@ way-of r sh s p h =
       told = way-told r sh s l there;
     }
 
-pub after-steps : (s : List ℕ) → siteOf s .verdict ≡ Accepted → (rows : List Row) (p : ℕ) → p < siteOf s .«record» .people
+pub after-steps : (s : List ℕ) → siteOf s .verdict ≡ Accepted → (rows : List StepRow) (p : ℕ) → p < siteOf s .«record» .people
     → WayOutside (lastOf (siteOf s .«record») rows) p
 after-steps s e rows p h =
     let a = accepted-holds s e in

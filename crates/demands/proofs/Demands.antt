@@ -10,23 +10,23 @@
 use Prim.Native.Nat.{ℕ}
 use mathlib.Core.Path.{_≡_}
 use mathlib.Core.List.{List}
-use Rattle.record.specs.Run.{Row}
+use Rattle.phases.specs.Kinds.{StepRow}
 use Rattle.verdict.specs.declared.Verdict.the-variants.{Accepted}
-use Rattle.says.specs.Site.{siteOf}
-use Rattle.says.proofs.Theorems.{accepted-exactly, accepted-holds}
+use Rattle.site_sheet.specs.Site.{siteOf}
+use Rattle.site_sheet.proofs.Theorems.{accepted-exactly, accepted-holds}
 use Rattle.chapter.proofs.Theorems.{constants-obey, panel-runs}
 use Rattle.demands.specs.DemandOne.{DemandOne}
 use Rattle.demands.specs.DemandTwo.{DemandTwo}
-use Rattle.serving.specs.Served.{DemandThree}
-use Rattle.serving.specs.Warden.{PutByPassages, RefusedMovesNobody}
+use Rattle.card_by_card.specs.Served.{DemandThree}
+use Rattle.card_by_card.specs.Warden.{PutByPassages, RefusedMovesNobody}
 use Rattle.demands.specs.Unique.{AnswersUnique}
 use Rattle.demands.specs.Cases.{TwelveCases}
 use Rattle.demands.proofs.DemandOne.{of-sheet, of-rules, of-record, of-site}
 use Rattle.demands.proofs.Leaves.{of-tables, of-door, of-sound}
 use Rattle.demands.proofs.Texts.{of-run}
 use Rattle.demands.proofs.DemandTwo.{way-of, after-steps, is-event, decided, starts, alters, green-counts, red-counts}
-use Rattle.serving.proofs.DemandThree as three
-use Rattle.serving.proofs.Warden as warden
+use Rattle.card_by_card.proofs.DemandThree as three
+use Rattle.card_by_card.proofs.Warden as warden
 use Rattle.demands.proofs.Accepted.{accepted-fresh}
 use Rattle.demands.proofs.Unique.{sheet-unique, tables-unique, rules-unique, door-unique, sound-unique, record-unique, site-unique, run-unique, papers-unique}
 use Rattle.demands.proofs.TwelveCases as cases
@@ -72,15 +72,15 @@ demand-2 =
 -- "3. Any list of steps from a fresh record can be served one card at a time, in the order of what was recorded, with everyone
 -- standing where the real record has them and each card getting the decision it got, for the same reason (a card refused only for
 -- another open grant is then granted and not used)."
-pub demand-3 : (s : List ℕ) → siteOf s .verdict ≡ Accepted → (rows : List Row) → DemandThree (siteOf s .«record») rows
+pub demand-3 : (s : List ℕ) → siteOf s .verdict ≡ Accepted → (rows : List StepRow) → DemandThree (siteOf s .«record») rows
 demand-3 s e rows = three.demand-3 (siteOf s .«record») (accepted-fresh s e) rows
 
 -- So no order or lateness of messages puts a person where no recorded passage put them,
-pub put-by-passages : (s : List ℕ) → siteOf s .verdict ≡ Accepted → (rows : List Row) → PutByPassages (siteOf s .«record») rows
+pub put-by-passages : (s : List ℕ) → siteOf s .verdict ≡ Accepted → (rows : List StepRow) → PutByPassages (siteOf s .«record») rows
 put-by-passages s e rows = warden.put-by-passages (siteOf s .«record») (accepted-fresh s e) rows
 
 -- and a refused card moves nobody.
-pub refused-moves-nobody : (s : List ℕ) → siteOf s .verdict ≡ Accepted → (rows : List Row) → RefusedMovesNobody (siteOf s .«record») rows
+pub refused-moves-nobody : (s : List ℕ) → siteOf s .verdict ≡ Accepted → (rows : List StepRow) → RefusedMovesNobody (siteOf s .«record») rows
 refused-moves-nobody s e rows = warden.refused-moves-nobody (siteOf s .«record») (accepted-fresh s e) rows
 
 -- "Each public function says, for every input, its answer and every byte or field it was lent, refusals too. That two answers both

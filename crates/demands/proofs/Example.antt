@@ -8,11 +8,11 @@ use Rattle.tables.specs.Below.{leastBelow, orAt}
 use Rattle.phases.specs.Phase.{read, grants}
 use Rattle.door.specs.Door.{door}
 use Rattle.record.specs.Doors.{zeros, freshRecord, putDoor, putAt}
-use Rattle.sound.specs.Grants.{grantsTo, grantOf, hasGrant}
-use Rattle.sound.specs.Reasons.{firstReason}
+use Rattle.granting.specs.Grants.{grantsTo, grantOf, hasGrant}
+use Rattle.granting.specs.Reasons.{firstReason}
 use Rattle.record.specs.Steps.{reasonFor}
-use Rattle.serving.specs.Serving.{Granted, Denied, noCards, shownAfter, cardAfter, remember, Refusal, Passage, entry, entriesBy, entriesOf, recorded}
-use Rattle.printed.proofs.Examples.{site-of-01}
+use Rattle.card_by_card.specs.Serving.{Granted, Denied, noCards, shownAfter, cardAfter, remember, Refusal, Passage, entry, entriesBy, entriesOf, recorded}
+use Rattle.run_text.proofs.Examples.{site-of-01}
 use Rattle.demands.specs.WholeRun.{runOf01}
 
 -- a refusal at door 1 for reason 1, then a passage at door 0

@@ -19,26 +19,26 @@ use Rattle.phases.specs.declared.table.Kind.{Kind}
 use Rattle.phases.specs.declared.answer.Answer.{Answer}
 use Rattle.phases.specs.declared.answer.Answer.the-variants.{Done, NoSuch, NotAllowed, TooShort, Unsound}
 use Rattle.record.specs.declared.steps.Step.{Step}
-use Rattle.phases.specs.Answers.{numberOf}
+use Rattle.phases.specs.Answers.{answerNo}
 use Rattle.record.specs.Doors.{doorOf, Shaped}
-use Rattle.phases.specs.Kinds.{allows}
+use Rattle.phases.specs.Kinds.{StepRow, allows}
 use Rattle.record.specs.Sound.{Sound}
 use Rattle.record.specs.SoundTest.{soundB}
 use Rattle.door.specs.declared.does.Does.{Does}
 use Rattle.door.specs.declared.does.Does.the-variants.{Stays, Turns, Moves}
 use Rattle.record.specs.Steps.{act, exist, soundStep, stepOf}
-use Rattle.record.specs.Run.{Row, rowOf, toldOf, answerTold, phaseTold, reasonTold}
-use Rattle.sound.proofs.Cases.{either}
+use Rattle.record.specs.Run.{rowOf, toldOf, answerTold, phaseTold, reasonTold}
+use Rattle.tables.proofs.Cases.{either}
 use Rattle.record.proofs.Laws.{sound-stays, shaped-stays}
 use Rattle.demands.specs.DemandOne.{DoesTold}
 use Rattle.demands.proofs.Leaves.{effect-told, reason-small}
-use Rattle.printed.specs.declared.steps.Line.{Line}
-use Rattle.printed.specs.declared.steps.Line.the-variants as line
-use Rattle.printed.specs.Steps.{lineAt, before, stepsIn, stepsFrom}
-use Rattle.printed.specs.Text.{rowText}
-use Rattle.printed.specs.Printed.{panelRow, answerRows, placeRows}
-use Rattle.printed.proofs.Writing.{one-digit, two-digits, four-digits, last-length, more-length}
-use Rattle.printed.proofs.Decoding.{Takes, step-takes}
+use Rattle.run_text.specs.declared.steps.StepsLine.{StepsLine}
+use Rattle.run_text.specs.declared.steps.StepsLine.the-variants as line
+use Rattle.run_text.specs.Steps.{stepsLineAt, before, stepsIn, stepsFrom}
+use Rattle.run_text.specs.Text.{rowOfNumbers}
+use Rattle.run_text.specs.Printed.{panelRow, answerRows, placeRows}
+use Rattle.run_text.proofs.Writing.{one-digit, two-digits, four-digits, last-length, more-length}
+use Rattle.run_text.proofs.Decoding.{Takes, step-takes}
 
 -- ---- a sheet has at most 6,144 steps
 
@@ -57,7 +57,7 @@ unfolding readRows stepsIn
 few zero s at = omega arith
 few (suc most) s at = go (cutRow s at) refl (few most s)
   where
-    step : (cells : Cells) (next : ℕ) → cutRow s at ≡ Cut cells next → (said : Line) → lineAt s cells ≡ said
+    step : (cells : Cells) (next : ℕ) → cutRow s at ≡ Cut cells next → (said : StepsLine) → stepsLineAt s cells ≡ said
         → 8 * length (stepsIn s (readRows most s next) .kinds) ≤ length s + 2 - next
         → 8 * length (before said (stepsIn s (readRows most s next)) .kinds) ≤ length s + 2 - at
     step cells next e line.Bad l h = omega arith
@@ -66,7 +66,7 @@ few (suc most) s at = go (cutRow s at) refl (few most s)
 
     go : (cut : RowCut) → cutRow s at ≡ cut → ((next : ℕ) → 8 * length (stepsIn s (readRows most s next) .kinds) ≤ length s + 2 - next)
         → 8 * length (stepsIn s (onRow cut (λ next. readRows most s next)) .kinds) ≤ length s + 2 - at
-    go (Cut cells next) e h = step cells next e (lineAt s cells) refl (h next)
+    go (Cut cells next) e h = step cells next e (stepsLineAt s cells) refl (h next)
     go NoRow e h = omega arith
     go (Broken byte) e h = omega arith
 
@@ -105,7 +105,7 @@ told-short r s k d p =
     (λ _. record { phase-short = omega arith; reason-short = omega arith }))
     (λ _. record { phase-short = omega arith; reason-short = omega arith })
 
-number-most : (a : Answer) → numberOf a ≤ 14
+number-most : (a : Answer) → answerNo a ≤ 14
 number-most Done = omega arith
 number-most NoSuch = omega arith
 number-most NotAllowed = omega arith
@@ -126,7 +126,7 @@ row-short n a p r hn ha hp hr =
     let dr = one-digit r (omega arith) in
     omega arith
 
-pub rows-short : (r : Record) → Shaped r → Sound r → (rows : List Row) (n : ℕ) → n + length rows ≤ 10000
+pub rows-short : (r : Record) → Shaped r → Sound r → (rows : List StepRow) (n : ℕ) → n + length rows ≤ 10000
     → length (answerRows n (toldOf answerTold r rows) (toldOf phaseTold r rows) (toldOf reasonTold r rows)) ≤ 13 * length rows
 unfolding toldOf answerRows
 rows-short r sh s [] n h = omega arith
@@ -140,7 +140,7 @@ rows-short r sh s (first ∷ rows) n h =
 
 -- ---- the rows of the people
 
-place-short : (n l : ℕ) → n < 100 → l < 100 → length (rowText n (l ∷ [])) ≤ 7
+place-short : (n l : ℕ) → n < 100 → l < 100 → length (rowOfNumbers n (l ∷ [])) ≤ 7
 place-short n l hn hl =
     let x = more-length n l [] in
     let y = last-length l in
@@ -155,5 +155,5 @@ places-short [] n h all = omega arith
 places-short (l ∷ places) n h all =
     let one = place-short n l (omega arith) (all 0 (omega arith)) in
     let rest = places-short places (n + 1) (omega arith) (λ i k. all (suc i) (omega arith)) in
-    let a = length-append (rowText n (l ∷ [])) (placeRows (n + 1) places) in
+    let a = length-append (rowOfNumbers n (l ∷ [])) (placeRows (n + 1) places) in
     omega arith

@@ -19,15 +19,15 @@ use Rattle.phases.specs.declared.answer.Answer.{Answer}
 use Rattle.phases.specs.declared.answer.Answer.the-variants.{Done, NoSuch, NotAllowed, TooShort, Unsound}
 use Rattle.phases.specs.Phase.{green, expired, red, dimmed, granted, grants}
 use Rattle.door.specs.Door.{freeDoor, doorIn}
-use Rattle.phases.specs.Answers.{numberOf}
+use Rattle.phases.specs.Answers.{answerNo}
 use Rattle.phases.specs.Kinds.{kindOf}
 use Rattle.door.specs.Does.{burns, effect}
 use Rattle.phases.proofs.Entries.{table-allows}
-use Rattle.sound.specs.Grants.{GrantAt, hasGrant}
-use Rattle.sound.specs.Reasons.{firstReason}
-use Rattle.sound.specs.SoundTest.{zeroBeyond, placesFit, doorsFit, grantsFit, soleGrants, doorsSound, listsSound}
-use Rattle.sound.proofs.Cases.{either, same-or-not}
-use Rattle.sound.proofs.Granting.{found-grant}
+use Rattle.granting.specs.Grants.{GrantAt, hasGrant}
+use Rattle.granting.specs.Reasons.{firstReason}
+use Rattle.soundness.specs.SoundTest.{zeroBeyond, placesFit, doorsFit, grantsFit, soleGrants, doorsSound, listsSound}
+use Rattle.tables.proofs.Cases.{either, same-or-not}
+use Rattle.granting.proofs.Granting.{found-grant}
 use Rattle.record.specs.Sound.{ZeroBeyond}
 use Rattle.record.proofs.Tells.{ends-tell, tell-places, tell-fields, tell-sole, sole-alone}
 use Rattle.demands.specs.DemandOne.{OneOf, TablesAnswers, DoesTold, DoorAnswers, SoundAnswers}
@@ -45,7 +45,7 @@ of-tables = record { byte-at = past-end; word-at = past-end; put-byte = put-ther
 
 -- ---- one door
 
-a-number : (a : Answer) → OneOf (0 ∷ 11 ∷ 12 ∷ 13 ∷ 14 ∷ []) (numberOf a)
+a-number : (a : Answer) → OneOf (0 ∷ 11 ∷ 12 ∷ 13 ∷ 14 ∷ []) (answerNo a)
 a-number Done = inl refl
 a-number NoSuch = inr (inl refl)
 a-number NotAllowed = inr (inr (inl refl))

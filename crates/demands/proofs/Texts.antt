@@ -20,21 +20,22 @@ use Rattle.record.specs.declared.record.Record.{Record}
 use Rattle.record.specs.Doors.{Shaped}
 use Rattle.record.specs.Sound.{Sound}
 use Rattle.record.specs.Run.{toldOf, answerTold, phaseTold, reasonTold}
-use Rattle.sound.proofs.Cases.{either}
+use Rattle.tables.proofs.Cases.{either}
 use Rattle.record.proofs.Laws.{run-sound, run-shaped}
-use Rattle.says.specs.Site.{limit, siteOf, numberOf}
-use Rattle.says.specs.Accepted.{AcceptedRecord}
-use Rattle.says.proofs.Theorems.{accepted-holds}
-use Rattle.printed.specs.declared.steps.Heading.{Heading}
-use Rattle.printed.specs.declared.steps.Heading.the-variants as heading
-use Rattle.printed.specs.declared.text.Printed.{Printed}
-use Rattle.printed.specs.declared.text.Printed.the-variants.{Text, TooShort}
-use Rattle.printed.specs.Steps.{headerAt, headed, headingOf, stepsFrom, rowsIn}
-use Rattle.printed.specs.Printed.{panelHeader, whereHeader, panelRow, answerRows, lastRow, runText, aloneText, ranText, stepsText, panelText}
-use Rattle.printed.specs.Printed.{placeRows, placesText, recordText, lastRecord, whereText, fits, printedOf, written, printedNumber}
-use Rattle.printed.proofs.Writing.{four-width}
-use Rattle.printed.proofs.Serving.{steps-even, steps-told, rows-length}
-use Rattle.printed.proofs.Sheets.{zero-accepted, headed-short}
+use Rattle.site_sheet.specs.Site.{siteOf, verdictNo}
+use Rattle.grammar.specs.Sizes.{limit}
+use Rattle.site_sheet.specs.Accepted.{AcceptedRecord}
+use Rattle.site_sheet.proofs.Theorems.{accepted-holds}
+use Rattle.run_text.specs.declared.steps.Heading.{Heading}
+use Rattle.run_text.specs.declared.steps.Heading.the-variants as heading
+use Rattle.run_text.specs.declared.text.Printed.{Printed}
+use Rattle.run_text.specs.declared.text.Printed.the-variants.{Text, TooShort}
+use Rattle.run_text.specs.Steps.{stepsHeaderAt, headed, headingOf, stepsFrom, rowsIn}
+use Rattle.run_text.specs.Printed.{panelHeader, whereHeader, panelRow, answerRows, lastRow, runText, aloneText, ranText, stepsText, panelText}
+use Rattle.run_text.specs.Printed.{placeRows, placesText, recordText, lastRecord, whereText, fitsIn, printedOf, written, printedNo}
+use Rattle.run_text.proofs.Writing.{four-width}
+use Rattle.run_text.proofs.Serving.{steps-even, steps-told, rows-length}
+use Rattle.run_text.proofs.Sheets.{zero-accepted, headed-short}
 use Rattle.demands.specs.DemandOne.{OneOf, HeadingTold, TextTells, RunAnswers}
 use Rattle.demands.proofs.DemandOne.{number-most, of-rules}
 use Rattle.demands.proofs.Fits.{steps-few, rows-short, places-short}
@@ -44,7 +45,7 @@ unfolding headingOf
 heading-told s = go (ltb limit (length s)) refl
   where
     cut : length s ≤ limit → (x : RowCut) → cutRow s 0 ≡ x → HeadingTold s (headed s x)
-    cut h (Cut cells next) e = let w = cut-there s 0 e in either (HeadingTold s) (headerAt s cells) (λ _. (h, w .0, w .1)) (λ _. h)
+    cut h (Cut cells next) e = let w = cut-there s 0 e in either (HeadingTold s) (stepsHeaderAt s cells) (λ _. (h, w .0, w .1)) (λ _. h)
     cut h NoRow e = h
     cut h (Broken byte) e = h
 
@@ -53,7 +54,7 @@ heading-told s = go (ltb limit (length s)) refl
     go false q = cut (ltb-false limit (length s) q) (cutRow s 0) refl
 
 text-tells : (text out : List ℕ) → TextTells text out
-unfolding printedOf written fits
+unfolding printedOf written fitsIn
 text-tells text out = go (leb (length text) (length out)) refl
   where
     go : (q : Bool) → leb (length text) (length out) ≡ q → TextTells text out
@@ -74,7 +75,7 @@ text-tells text out = go (leb (length text) (length out)) refl
           unaltered = λ _. rw q;
         }
 
-a-text-number : (p : Printed) → OneOf (0 ∷ 13 ∷ []) (printedNumber p)
+a-text-number : (p : Printed) → OneOf (0 ∷ 13 ∷ []) (printedNo p)
 a-text-number (Text n) = inl refl
 a-text-number TooShort = inr (inl refl)
 
@@ -117,9 +118,9 @@ steps-fit site a steps (heading.Rows from) e = ran-fits (siteOf site .«record»
 panel-fits : (site steps : List ℕ) → length (panelText site steps) ≤ 81920
 unfolding panelText
 panel-fits site steps =
-    either (λ (t : List ℕ). length t ≤ 81920) (eqb (numberOf (siteOf site .verdict)) 0)
+    either (λ (t : List ℕ). length t ≤ 81920) (eqb (verdictNo (siteOf site .verdict)) 0)
     (λ z. steps-fit site (accepted-holds site (zero-accepted (siteOf site .verdict) (eqb-true _ _ z))) steps (headingOf steps) refl)
-    (λ _. alone-fits (numberOf (siteOf site .verdict)) (number-most (siteOf site .verdict)))
+    (λ _. alone-fits (verdictNo (siteOf site .verdict)) (number-most (siteOf site .verdict)))
 
 -- everyone is in a location below 32
 place-small : (r : Record) → Sound r → (p : ℕ) → p < r .people → getD (r .place) p 0 < 100
@@ -153,7 +154,7 @@ none-fit = omega arith
 where-fits : (site steps : List ℕ) → length (whereText site steps) ≤ 512
 unfolding whereText
 where-fits site steps =
-    either (λ (t : List ℕ). length t ≤ 512) (eqb (numberOf (siteOf site .verdict)) 0)
+    either (λ (t : List ℕ). length t ≤ 512) (eqb (verdictNo (siteOf site .verdict)) 0)
     (λ z. last-fits-where site (accepted-holds site (zero-accepted (siteOf site .verdict) (eqb-true _ _ z))) steps (headingOf steps))
     (λ _. none-fit)
 

@@ -9,38 +9,38 @@ use lib.ListN.{getD}
 use Rattle.tables.specs.Below.{orAt, leastBelow, withLocation, locationOf, leastPair, someBelow}
 use Rattle.tables.specs.Tables.{orElse, andAlso, mayBe}
 use Rattle.tables.specs.Tests.{lacksExit, firstNoExit, strays, firstStray, joins, lacksDoor, firstNoDoor, lacksRight, firstNoRight, letsIn, shutOut, firstShutOut}
-use Rattle.tables.specs.Way.{unlessOutside, wayOut, unvisited, wayOf, ifRoom, told, written}
+use Rattle.tables.specs.Way.{unlessOutside, wayOut, unvisited, wayOf, ifRoom, wayToldIn, wayWrittenIn}
 use Rattle.record.specs.declared.record.Record.{Record}
 use Rattle.record.specs.declared.steps.Step.{Step}
 use Rattle.phases.specs.declared.table.Kind.the-variants.{Decide, Green, Walk}
 use Rattle.phases.specs.Phase.{grants, green, expired}
 use Rattle.record.specs.Doors.{Shaped, zeros}
-use Rattle.phases.specs.Kinds.{allows}
-use Rattle.sound.specs.Grants.{grantsTo, grantOf, hasGrant}
+use Rattle.phases.specs.Kinds.{StepRow, allows}
+use Rattle.granting.specs.Grants.{grantsTo, grantOf, hasGrant}
 use Rattle.record.specs.Sound.{Sound}
 use Rattle.door.specs.Does.{effect}
-use Rattle.sound.specs.Reasons.{firstReason}
+use Rattle.granting.specs.Reasons.{firstReason}
 use Rattle.record.specs.Steps.{act, exist, soundStep}
 use Rattle.record.specs.SoundTest.{soundB}
 use Rattle.record.specs.Questions.{wayAnswerOf, wayWritten}
 use Rattle.record.specs.declared.questions.WayAnswer.the-variants.{Length}
-use Rattle.record.specs.Run.{Row, rowOf, lastOf, toldOf}
+use Rattle.record.specs.Run.{rowOf, lastOf, toldOf}
 use Rattle.record.proofs.Laws.{sound-steps, sound-stays, shaped-stays, run-sound, run-shaped}
 use Rattle.record.proofs.Tells.{sound-tells}
 use Rattle.grammar.specs.Cut.{bareMove, shutMove, moveOf, endOf, fieldFrom, pushed, rowFrom, cutRow}
 use Rattle.grammar.specs.Rows.{readRows, rowsFrom}
-use Rattle.grammar.specs.Say.{valueFrom, digitsFrom, needlessZero, numberOf, contentAt, sameBytes, isWord, saysWords, numberAt}
+use Rattle.grammar.specs.Say.{valueFrom, digitsFrom, needlessZero, numberIn, contentAt, sameBytes, isWord, saysWords, numberAt}
 use Rattle.verdict.specs.declared.Verdict.the-variants.{Accepted, NoExit, Stray, NoDoor, NoRight, ShutOut}
-use Rattle.says.specs.Draft.{unmarked, siteFits, takeSite, doorFits, takeDoor, exitFits, takeExit, rightFits, takeRight, takeLine}
-use Rattle.says.specs.Line.{wordOf, lineAt, headerAt}
-use Rattle.says.specs.Site.{linesIn, readLines, judged, settled, afterHeader, siteOf}
-use Rattle.serving.specs.Serving.{Line, linesOf, heardOf, stepAt, ticked}
-use Rattle.serving.specs.Served.{Fresh}
+use Rattle.site_sheet.specs.Draft.{unmarked, siteRowFits, takeSite, doorRowFits, takeDoor, exitRowFits, takeExit, rightRowFits, takeRight, takeLine}
+use Rattle.site_sheet.specs.Line.{wordOf, siteLineAt, siteHeaderAt}
+use Rattle.site_sheet.specs.Site.{linesIn, readLines, judged, settled, afterHeader, siteOf}
+use Rattle.card_by_card.specs.Serving.{Line, linesOf, heardOf, stepAt, ticked}
+use Rattle.card_by_card.specs.Served.{Fresh}
 use Rattle.demands.specs.Cases.{withoutExit, exitsInACircle, withoutDoor, withoutRightOf0, withoutRightOf1, freshSite, reasonAt, phaseAt, cardAt, goesThrough, greenFor, TwelveCases}
-use Rattle.demands.specs.WholeRun.{runOf01, stepsIn}
-use Rattle.serving.proofs.Runs.{lineOf}
-use Rattle.printed.specs.Examples.{siteSheet}
-use Rattle.printed.proofs.Examples.{soundLast, sound-last, site-of-01}
+use Rattle.demands.specs.WholeRun.{runOf01, rowsHeard}
+use Rattle.card_by_card.proofs.Runs.{lineOf}
+use Rattle.run_text.specs.Examples.{siteSheet}
+use Rattle.run_text.proofs.Examples.{soundLast, sound-last, site-of-01}
 use Rattle.demands.proofs.Accepted.{accepted-fresh}
 
 -- what the six sheets are told, and the record of the first
@@ -51,7 +51,7 @@ sheets : (siteOf siteSheet .verdict ≡ Accepted)
     × (siteOf withoutRightOf0 .verdict ≡ NoRight 0 2)
     × (siteOf withoutRightOf1 .verdict ≡ ShutOut 1)
     × (freshSite ≡ site-of-01)
-unfolding bareMove shutMove moveOf endOf fieldFrom pushed rowFrom cutRow readRows rowsFrom valueFrom digitsFrom needlessZero numberOf contentAt sameBytes isWord saysWords numberAt orAt leastBelow withLocation locationOf leastPair someBelow orElse andAlso mayBe lacksExit firstNoExit strays firstStray joins lacksDoor firstNoDoor lacksRight firstNoRight letsIn shutOut firstShutOut unlessOutside wayOut unvisited wayOf unmarked siteFits takeSite doorFits takeDoor exitFits takeExit rightFits takeRight takeLine wordOf lineAt headerAt linesIn readLines judged settled afterHeader siteOf zeros
+unfolding bareMove shutMove moveOf endOf fieldFrom pushed rowFrom cutRow readRows rowsFrom valueFrom digitsFrom needlessZero numberIn contentAt sameBytes isWord saysWords numberAt orAt leastBelow withLocation locationOf leastPair someBelow orElse andAlso mayBe lacksExit firstNoExit strays firstStray joins lacksDoor firstNoDoor lacksRight firstNoRight letsIn shutOut firstShutOut unlessOutside wayOut unvisited wayOf unmarked siteRowFits takeSite doorRowFits takeDoor exitRowFits takeExit rightRowFits takeRight takeLine wordOf siteLineAt siteHeaderAt linesIn readLines judged settled afterHeader siteOf zeros
 sheets = (refl, refl, refl, refl, refl, refl, refl)
 
 fresh : Fresh freshSite
@@ -59,16 +59,16 @@ fresh = accepted-fresh siteSheet (sheets .0)
 
 -- ---- the steps, without the test for 14
 
-last-here : (rows : List Row) → lastOf freshSite rows ≡ soundLast site-of-01 rows
+last-here : (rows : List StepRow) → lastOf freshSite rows ≡ soundLast site-of-01 rows
 last-here rows = sound-last rows freshSite (fresh .shaped) (fresh .sound) ∙ ap (λ (x : Record). soundLast x rows) (sheets .6)
 
-reason-here : (d : ℕ) (rows : List Row) → reasonAt d rows ≡ soundStep (soundLast site-of-01 rows) Decide d 0 .reason
+reason-here : (d : ℕ) (rows : List StepRow) → reasonAt d rows ≡ soundStep (soundLast site-of-01 rows) Decide d 0 .reason
 reason-here d rows =
     ap (λ (x : Step). x .reason)
     (sound-steps (lastOf freshSite rows) Decide d 0 (run-shaped freshSite rows (fresh .shaped)) (run-sound freshSite rows (fresh .shaped) (fresh .sound)))
     ∙ ap (λ (x : Record). soundStep x Decide d 0 .reason) (last-here rows)
 
-phase-here : (d : ℕ) (rows : List Row) → phaseAt d rows ≡ getD (soundLast site-of-01 rows .phase) d 0
+phase-here : (d : ℕ) (rows : List StepRow) → phaseAt d rows ≡ getD (soundLast site-of-01 rows .phase) d 0
 phase-here d rows = ap (λ (x : Record). getD (x .phase) d 0) (last-here rows)
 
 steps : (reasonAt 1 (cardAt 0 0 ∷ stepAt Decide 0 ∷ stepAt Green 0 ∷ stepAt Walk 0 ∷ cardAt 1 0 ∷ []) ≡ 1)
@@ -82,13 +82,13 @@ steps = (reason-here 1 _, reason-here 1 _, reason-here 3 _, phase-here 0 _, phas
 -- ---- the whole run
 
 -- what is heard of each step
-soundHeard : Record → List Row → List Line
+soundHeard : Record → List StepRow → List Line
 soundHeard r [] = []
 soundHeard r (row ∷ rows) =
     let s = soundStep r (row .kind) (row .at) (row .person) in
     lineOf row s ∷ soundHeard (s .next) rows
 
-sound-heard : (rows : List Row) (r : Record) → Shaped r → Sound r → heardOf r rows ≡ soundHeard r rows
+sound-heard : (rows : List StepRow) (r : Record) → Shaped r → Sound r → heardOf r rows ≡ soundHeard r rows
 unfolding heardOf linesOf toldOf soundHeard
 sound-heard [] r sh s = refl
 sound-heard (row ∷ rows) r sh s =
@@ -96,14 +96,14 @@ sound-heard (row ∷ rows) r sh s =
     (sound-heard rows _ (shaped-stays r (row .kind) (row .at) (row .person) sh) (sound-stays r (row .kind) (row .at) (row .person) sh s))
     ∙ ap (λ (x : Step). lineOf row x ∷ soundHeard (x .next) rows) (sound-steps r (row .kind) (row .at) (row .person) sh s)
 
-pub whole-run : heardOf freshSite (stepsIn runOf01) ≡ runOf01
-unfolding soundHeard stepsIn soundStep firstReason effect act exist allows hasGrant grantOf leastBelow orAt grantsTo grants mayBe andAlso orElse zeros
-whole-run = sound-heard (stepsIn runOf01) freshSite (fresh .shaped) (fresh .sound) ∙ ap (λ (x : Record). soundHeard x (stepsIn runOf01)) (sheets .6)
+pub whole-run : heardOf freshSite (rowsHeard runOf01) ≡ runOf01
+unfolding soundHeard rowsHeard soundStep firstReason effect act exist allows hasGrant grantOf leastBelow orAt grantsTo grants mayBe andAlso orElse zeros
+whole-run = sound-heard (rowsHeard runOf01) freshSite (fresh .shaped) (fresh .sound) ∙ ap (λ (x : Record). soundHeard x (rowsHeard runOf01)) (sheets .6)
 
-pub whole-run-places : (getD (lastOf freshSite (stepsIn runOf01) .place) 0 0 ≡ 1) × (getD (lastOf freshSite (stepsIn runOf01) .place) 1 0 ≡ 0)
-unfolding soundLast stepsIn soundStep firstReason effect act exist allows hasGrant grantOf leastBelow orAt grantsTo grants mayBe andAlso orElse zeros
+pub whole-run-places : (getD (lastOf freshSite (rowsHeard runOf01) .place) 0 0 ≡ 1) × (getD (lastOf freshSite (rowsHeard runOf01) .place) 1 0 ≡ 0)
+unfolding soundLast rowsHeard soundStep firstReason effect act exist allows hasGrant grantOf leastBelow orAt grantsTo grants mayBe andAlso orElse zeros
 whole-run-places =
-    (ap (λ (x : Record). getD (x .place) 0 0) (last-here (stepsIn runOf01)), ap (λ (x : Record). getD (x .place) 1 0) (last-here (stepsIn runOf01)))
+    (ap (λ (x : Record). getD (x .place) 0 0) (last-here (rowsHeard runOf01)), ap (λ (x : Record). getD (x .place) 1 0) (last-here (rowsHeard runOf01)))
 
 -- ---- the question
 
@@ -111,7 +111,7 @@ tested : soundB site-of-01 ≡ true
 tested = subst (λ (x : Record). soundB x ≡ true) (sheets .6) (sound-tells freshSite (fresh .shaped) .back (fresh .sound))
 
 way : (wayAnswerOf site-of-01 2 (9 ∷ 9 ∷ 9 ∷ []) ≡ Length 2) × (wayWritten site-of-01 2 (9 ∷ 9 ∷ 9 ∷ []) ≡ 1 ∷ 0 ∷ 9 ∷ [])
-unfolding wayAnswerOf wayWritten told written ifRoom wayOf wayOut unlessOutside unvisited
+unfolding wayAnswerOf wayWritten wayToldIn wayWrittenIn ifRoom wayOf wayOut unlessOutside unvisited
 way = (rw (tested), rw (tested))
 
 pub twelve-cases : TwelveCases

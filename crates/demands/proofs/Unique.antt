@@ -3,7 +3,7 @@ use Prim.Native.Nat.{ℕ}
 use mathlib.Core.Path.{_≡_, sym, _∙_}
 use mathlib.Core.List.{List}
 use Rattle.record.proofs.Right.{reason-only}
-use Rattle.says.proofs.Only.{gives-site}
+use Rattle.site_sheet.proofs.Only.{gives-site}
 use Rattle.demands.specs.Unique.{Unique, SheetUnique, TablesUnique, RulesUnique, DoorUnique, SoundUnique, RecordUnique, SiteUnique, RunUnique, PapersUnique}
 
 -- an equation allows one answer,

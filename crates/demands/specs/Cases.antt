@@ -7,13 +7,14 @@ use Rattle.record.specs.declared.record.Record.{Record}
 use Rattle.phases.specs.declared.table.Kind.the-variants.{Card, Decide, Green, Walk, Passed, Ack}
 use Rattle.record.specs.declared.questions.WayAnswer.the-variants.{Length}
 use Rattle.phases.specs.Phase.{green, expired}
-use Rattle.record.specs.Run.{Row, rowOf, lastOf}
+use Rattle.record.specs.Run.{rowOf, lastOf}
+use Rattle.phases.specs.Kinds.{StepRow}
 use Rattle.record.specs.Questions.{wayAnswerOf, wayWritten}
 use Rattle.verdict.specs.declared.Verdict.the-variants.{Accepted, NoExit, Stray, NoDoor, NoRight, ShutOut}
-use Rattle.says.specs.Line.{doorWord, exitWord, rightWord}
-use Rattle.says.specs.Site.{siteOf}
-use Rattle.printed.specs.Examples.{line, top, fourDoors, twoExits, threeRights, siteSheet}
-use Rattle.serving.specs.Serving.{stepAt, ticked}
+use Rattle.site_sheet.specs.Line.{doorWord, exitWord, rightWord}
+use Rattle.site_sheet.specs.Site.{siteOf}
+use Rattle.run_text.specs.Examples.{line, top, fourDoors, twoExits, threeRights, siteSheet}
+use Rattle.card_by_card.specs.Serving.{stepAt, ticked}
 
 -- "without `exit,2,1`"
 abbrev pub withoutExit : List ℕ
@@ -40,24 +41,24 @@ abbrev pub freshSite : Record
 freshSite = siteOf siteSheet .«record»
 
 -- the reason that `decide` tells at a door after some steps
-abbrev pub reasonAt : ℕ → List Row → ℕ
+abbrev pub reasonAt : ℕ → List StepRow → ℕ
 reasonAt d rows = rowOf (lastOf freshSite rows) (stepAt Decide d) .reason
 
 -- the phase of a door after some steps
-abbrev pub phaseAt : ℕ → List Row → ℕ
+abbrev pub phaseAt : ℕ → List StepRow → ℕ
 phaseAt d rows = getD (lastOf freshSite rows .phase) d 0
 
 -- a person shows a card at a door
-abbrev pub cardAt : ℕ → ℕ → Row
+abbrev pub cardAt : ℕ → ℕ → StepRow
 cardAt d p = record { kind = Card; at = d; person = p }
 
 -- a person is granted a door and goes through
-abbrev pub goesThrough : ℕ → ℕ → List Row → List Row
+abbrev pub goesThrough : ℕ → ℕ → List StepRow → List StepRow
 goesThrough d p more =
     cardAt d p ∷ stepAt Decide d ∷ stepAt Green d ∷ stepAt Walk d ∷ stepAt Passed d ∷ stepAt Ack d ∷ more
 
 -- door 0 is green for person 0 and gets n ticks
-abbrev pub greenFor : ℕ → List Row
+abbrev pub greenFor : ℕ → List StepRow
 greenFor n = cardAt 0 0 ∷ stepAt Decide 0 ∷ stepAt Green 0 ∷ ticked n 0 []
 
 pub record TwelveCases : Type 0 where

@@ -17,8 +17,8 @@ use Rattle.grammar.specs.declared.cut.FieldCut.{FieldCut}
 use Rattle.grammar.specs.declared.cut.FieldCut.the-variants.{Next, Last, Fault}
 use Rattle.grammar.specs.declared.cut.RowCut.{RowCut}
 use Rattle.grammar.specs.declared.cut.RowCut.the-variants.{Cut, NoRow, Broken}
-use Rattle.grammar.specs.declared.count.Counted.{Counted}
-use Rattle.grammar.specs.declared.count.Counted.the-variants.{All, UpTo}
+use Rattle.grammar.specs.declared.count.RowsCounted.{RowsCounted}
+use Rattle.grammar.specs.declared.count.RowsCounted.the-variants.{All, UpTo}
 use Rattle.grammar.specs.declared.say.Number.the-variants.{Is}
 use Rattle.grammar.specs.Cut.{cutField, cutRow}
 use Rattle.grammar.specs.Rows.{countRows}
@@ -30,16 +30,16 @@ use Rattle.tables.specs.declared.RightFound.the-variants as pair
 use Rattle.tables.specs.declared.WayTold.the-variants.{Length, TooShort}
 use Rattle.tables.specs.Tables.{mayBe, mostLocations}
 use Rattle.tables.specs.Below.{Tells}
-use Rattle.tables.specs.Rules.{InRange, Lawful}
-use Rattle.tables.specs.Tests.{inRange, firstNoExit, firstStray, firstNoDoor, firstNoRight, firstShutOut, lawfulB}
-use Rattle.tables.specs.Way.{wayOf, told, written}
+use Rattle.tables.specs.Rules.{PlanInRange, Lawful}
+use Rattle.tables.specs.Tests.{planInRange, firstNoExit, firstStray, firstNoDoor, firstNoRight, firstShutOut, lawfulB}
+use Rattle.tables.specs.Way.{wayOf, wayToldIn, wayWrittenIn}
 use Rattle.record.specs.declared.record.Record.{Record}
 use Rattle.phases.specs.declared.table.Kind.{Kind}
 use Rattle.phases.specs.declared.table.Kind.the-variants.{Card, Decide, Green, Red, Walk, Tick, Passed, Lapsed, Dark, Ack, Unknown}
 use Rattle.phases.specs.declared.answer.Answer.{Answer}
 use Rattle.phases.specs.declared.answer.Answer.the-variants.{Done, NoSuch, NotAllowed, Unsound}
 use Rattle.record.specs.declared.steps.Step.{Step}
-use Rattle.phases.specs.Answers.{numberOf}
+use Rattle.phases.specs.Answers.{answerNo}
 use Rattle.door.specs.declared.Door.{Door}
 use Rattle.door.specs.declared.does.Does.{Does}
 use Rattle.door.specs.declared.does.Does.the-variants.{Stays, Turns, Moves}
@@ -48,27 +48,28 @@ use Rattle.door.specs.Door.{freeDoor, doorIn}
 use Rattle.door.specs.Fits.{fieldsFit}
 use Rattle.door.specs.Does.{effect}
 use Rattle.record.specs.Doors.{freshRecord, Shaped}
-use Rattle.sound.specs.Grants.{GrantAt, grantOf}
-use Rattle.sound.specs.Reasons.{firstReason}
-use Rattle.sound.specs.SoundTest.{listsSound}
+use Rattle.granting.specs.Grants.{GrantAt, grantOf}
+use Rattle.granting.specs.Reasons.{firstReason}
+use Rattle.soundness.specs.SoundTest.{listsSound}
 use Rattle.phases.specs.Kinds.{kindOf, allows, namesPerson}
 use Rattle.phases.specs.Table.{asked}
 use Rattle.record.specs.Sound.{ZeroBeyond, Sound}
 use Rattle.record.specs.SoundTest.{soundB}
 use Rattle.record.specs.Steps.{stepOf}
 use Rattle.record.specs.Run.{rowsOf, lastOf, toldOf, answerTold, phaseTold, reasonTold, runOf, answersOf, phasesOf, reasonsOf}
-use Rattle.record.specs.Questions.{placeOf, placeNumber, placeTold, grantedTo, grantNumber, grantTold, wayAnswerOf, wayWritten, wayNumber, lengthTold}
+use Rattle.record.specs.Questions.{placeOf, placeNo, placeTold, grantedTo, grantNo, grantTold, wayAnswerOf, wayWritten, wayNo, lengthTold}
 use Rattle.verdict.specs.declared.Verdict.{Verdict}
-use Rattle.says.specs.Site.{limit, siteOf, blankRecord, firstPlace, secondPlace}
-use Rattle.says.specs.Site as site
-use Rattle.says.specs.Gives.{Gives}
-use Rattle.printed.specs.declared.steps.Heading.{Heading}
-use Rattle.printed.specs.declared.steps.Heading.the-variants as heading
-use Rattle.printed.specs.declared.text.Printed.{Printed}
-use Rattle.printed.specs.declared.text.Printed.the-variants.{Text}
-use Rattle.printed.specs.Steps.{headingOf}
-use Rattle.printed.specs.Printed.{panelText, whereText, printedOf, printedNumber}
-use Rattle.printed.specs.Printed as run
+use Rattle.site_sheet.specs.Site.{siteOf, blankRecord, firstPlace, secondPlace}
+use Rattle.grammar.specs.Sizes.{limit}
+use Rattle.site_sheet.specs.Site as site
+use Rattle.site_sheet.specs.Gives.{Gives}
+use Rattle.run_text.specs.declared.steps.Heading.{Heading}
+use Rattle.run_text.specs.declared.steps.Heading.the-variants as heading
+use Rattle.run_text.specs.declared.text.Printed.{Printed}
+use Rattle.run_text.specs.declared.text.Printed.the-variants.{Text}
+use Rattle.run_text.specs.Steps.{headingOf}
+use Rattle.run_text.specs.Printed.{panelText, whereText, printedOf, printedNo}
+use Rattle.run_text.specs.Printed as run
 
 -- ---- the order of the numbers
 
@@ -79,9 +80,9 @@ pub data Order : Type 1 where
   _unless_then_ : ℕ → Type 0 → Order → Order
 
 -- n is the number of the first fact that fails, and 0 where none does
-abbrev pub Told : Order → ℕ → Type 0
-Told done n = n ≡ 0
-Told (m unless Fact then order) n = ((Fact → ⊥) × (n ≡ m)) ⊎ (Fact × Told order n)
+abbrev pub NumberBy : Order → ℕ → Type 0
+NumberBy done n = n ≡ 0
+NumberBy (m unless Fact then order) n = ((Fact → ⊥) × (n ≡ m)) ⊎ (Fact × NumberBy order n)
 
 -- n is one of these numbers
 abbrev pub OneOf : List ℕ → ℕ → Type 0
@@ -112,7 +113,7 @@ RowTold s at (Cut cells next) =
 RowTold s at NoRow = length s ≤ at
 RowTold s at (Broken byte) = Within s at byte
 
-abbrev pub CountTold : List ℕ → Counted → Type 0
+abbrev pub CountTold : List ℕ → RowsCounted → Type 0
 CountTold s (All rows) = rows ≤ length s
 CountTold s (UpTo rows byte) = (rows ≤ length s) × (byte ≤ length s)
 
@@ -146,8 +147,8 @@ pub record TablesAnswers : Type 0 where
 
 -- 13: "list lent for a way out is shorter than the way"; else its length is told, and it stands in front, the rest unaltered
 pub record WayTells (way list : List ℕ) : Type 0 where
-  pub short : length list < length way → (told way list ≡ TooShort) × (written way list ≡ list)
-  pub room : length way ≤ length list → (told way list ≡ Length (length way)) × (written way list ≡ way ++ drop (length way) list)
+  pub short : length list < length way → (wayToldIn way list ≡ TooShort) × (wayWrittenIn way list ≡ list)
+  pub room : length way ≤ length list → (wayToldIn way list ≡ Length (length way)) × (wayWrittenIn way list ≡ way ++ drop (length way) list)
   pub most : length way ≤ 31
 
 -- a test tells its rule, and an offender that is told is there
@@ -155,7 +156,7 @@ pub record RulesAnswers : Type 0 where
   -- "Location 0 is everybody's", and no right is read for a location past the last
   pub may-be : (right : List Bool) (p l : ℕ) → (mayBe right p 0 ≡ true) × (mostLocations ≤ l → mayBe right p l ≡ false)
   pub in-range : (people locations doors : ℕ) (origin destination exit : List ℕ)
-      → Tells (inRange people locations doors origin destination exit) (InRange people locations doors origin destination exit)
+      → Tells (planInRange people locations doors origin destination exit) (PlanInRange people locations doors origin destination exit)
   pub first-no-exit : (locations : ℕ) (given : List Bool) (l : ℕ) → firstNoExit locations given ≡ At l → l < locations
   pub first-stray : (locations : ℕ) (exit : List ℕ) (l : ℕ) → firstStray locations exit ≡ At l → l < locations
   pub first-no-door : (locations doors : ℕ) (origin destination exit : List ℕ) (l : ℕ) → firstNoDoor locations doors origin destination exit ≡ At l
@@ -178,7 +179,7 @@ DoesTold (Moves c) = c .phase ≤ closed
 
 pub record DoorAnswers : Type 0 where
   -- the table's numbers of steps and questions
-  pub answer-number : (a : Answer) → OneOf (0 ∷ 11 ∷ 12 ∷ 13 ∷ 14 ∷ []) (numberOf a)
+  pub answer-number : (a : Answer) → OneOf (0 ∷ 11 ∷ 12 ∷ 13 ∷ 14 ∷ []) (answerNo a)
   -- a number past 9 names no step, and no phase allows that
   pub kind-of : (n : ℕ) → 10 ≤ n → kindOf n ≡ Unknown
   -- "one fixed table, a hundred entries": at the ten phases it says what the steps' own rules say
@@ -220,7 +221,7 @@ stepOrder r k d p = 14 unless soundB r ≡ true then 11 unless Exists r k d p th
 
 -- s is what the step answers
 pub record StepTells (r : Record) (k : Kind) (d p : ℕ) (s : Step) : Type 0 where
-  pub number : Told (stepOrder r k d p) (numberOf (s .answer))
+  pub number : NumberBy (stepOrder r k d p) (answerNo (s .answer))
   -- "After a refusal the record .. hold[s] what [it] held before."
   pub unaltered : (s .answer ≡ Done → ⊥) → s .next ≡ r
   -- "the door's phase afterwards (0 with 11 or 14)"
@@ -242,8 +243,8 @@ pub record Room (steps doors persons answers phases reasons : List ℕ) : Type 0
   pub in-reasons : length steps ≤ length reasons
 
 pub record RunTells (r : Record) (steps doors persons answers phases reasons : List ℕ) : Type 0 where
-  pub number : Told (14 unless soundB r ≡ true then 13 unless Room steps doors persons answers phases reasons then done)
-      (numberOf (runOf r steps doors persons answers phases reasons .answer))
+  pub number : NumberBy (14 unless soundB r ≡ true then 13 unless Room steps doors persons answers phases reasons then done)
+      (answerNo (runOf r steps doors persons answers phases reasons .answer))
   -- "After a refusal the record and every lent list hold what they held before."
   pub unaltered : (runOf r steps doors persons answers phases reasons .answer ≡ Done → ⊥)
       → (runOf r steps doors persons answers phases reasons .next ≡ r)
@@ -259,25 +260,25 @@ pub record RunTells (r : Record) (steps doors persons answers phases reasons : L
 
 -- "A refused question tells its number, and 0 or none for all else."
 pub record PlaceTells (r : Record) (p : ℕ) : Type 0 where
-  pub number : Told (14 unless soundB r ≡ true then 11 unless p < r .people then done) (placeNumber (placeOf r p))
-  pub location : placeNumber (placeOf r p) ≡ 0 → placeTold (placeOf r p) ≡ getD (r .place) p 0
-  pub refused : (placeNumber (placeOf r p) ≡ 0 → ⊥) → placeTold (placeOf r p) ≡ 0
+  pub number : NumberBy (14 unless soundB r ≡ true then 11 unless p < r .people then done) (placeNo (placeOf r p))
+  pub location : placeNo (placeOf r p) ≡ 0 → placeTold (placeOf r p) ≡ getD (r .place) p 0
+  pub refused : (placeNo (placeOf r p) ≡ 0 → ⊥) → placeTold (placeOf r p) ≡ 0
 
 pub record GrantTells (r : Record) (p : ℕ) : Type 0 where
-  pub number : Told (14 unless soundB r ≡ true then 11 unless p < r .people then done) (grantNumber (grantedTo r p))
-  pub a-door : grantNumber (grantedTo r p) ≡ 0 → grantTold (grantedTo r p) ≡ grantOf (r .doors) (r .phase) (r .holder) p
-  pub refused : (grantNumber (grantedTo r p) ≡ 0 → ⊥) → grantTold (grantedTo r p) ≡ Nothing
+  pub number : NumberBy (14 unless soundB r ≡ true then 11 unless p < r .people then done) (grantNo (grantedTo r p))
+  pub a-door : grantNo (grantedTo r p) ≡ 0 → grantTold (grantedTo r p) ≡ grantOf (r .doors) (r .phase) (r .holder) p
+  pub refused : (grantNo (grantedTo r p) ≡ 0 → ⊥) → grantTold (grantedTo r p) ≡ Nothing
 
 pub record WayOutTells (r : Record) (l : ℕ) (list : List ℕ) : Type 0 where
-  pub number : Told
+  pub number : NumberBy
       (14 unless soundB r ≡ true then 11 unless l < r .locations then 13 unless length (wayOf (r .locations) (r .exit) l) ≤ length list then done)
-      (wayNumber (wayAnswerOf r l list))
-  pub a-length : wayNumber (wayAnswerOf r l list) ≡ 0 → lengthTold (wayAnswerOf r l list) ≡ length (wayOf (r .locations) (r .exit) l)
+      (wayNo (wayAnswerOf r l list))
+  pub a-length : wayNo (wayAnswerOf r l list) ≡ 0 → lengthTold (wayAnswerOf r l list) ≡ length (wayOf (r .locations) (r .exit) l)
   -- "written into the front of a lent list .., the rest of the list unaltered"
-  pub in-front : wayNumber (wayAnswerOf r l list) ≡ 0
+  pub in-front : wayNo (wayAnswerOf r l list) ≡ 0
       → wayWritten r l list ≡ wayOf (r .locations) (r .exit) l ++ drop (length (wayOf (r .locations) (r .exit) l)) list
-  pub refused : (wayNumber (wayAnswerOf r l list) ≡ 0 → ⊥) → lengthTold (wayAnswerOf r l list) ≡ 0
-  pub unaltered : (wayNumber (wayAnswerOf r l list) ≡ 0 → ⊥) → wayWritten r l list ≡ list
+  pub refused : (wayNo (wayAnswerOf r l list) ≡ 0 → ⊥) → lengthTold (wayAnswerOf r l list) ≡ 0
+  pub unaltered : (wayNo (wayAnswerOf r l list) ≡ 0 → ⊥) → wayWritten r l list ≡ list
 
 pub record RecordAnswers : Type 0 where
   -- the test of soundness tells it, of every record whose lists are as long as its arrays
@@ -308,18 +309,18 @@ pub record RecordAnswers : Type 0 where
 
 -- what is answered to a sheet: each number, with its place, exactly when its line of the table says so
 pub record SiteTells (s : List ℕ) : Type 0 where
-  pub number : site.numberOf (siteOf s .verdict) ≤ 10
+  pub number : site.verdictNo (siteOf s .verdict) ≤ 10
   pub exactly : (v : Verdict) → (siteOf s .verdict ≡ v) ↔ Gives s v
   -- "A refused site sheet gives no new record.": the blank one, which isn't sound
-  pub no-record : (site.numberOf (siteOf s .verdict) ≡ 0 → ⊥) → (siteOf s .«record» ≡ blankRecord) × (soundB (siteOf s .«record») ≡ true → ⊥)
+  pub no-record : (site.verdictNo (siteOf s .verdict) ≡ 0 → ⊥) → (siteOf s .«record» ≡ blankRecord) × (soundB (siteOf s .«record») ≡ true → ⊥)
 
 pub record SiteAnswers : Type 0 where
   pub read-site : (s : List ℕ) → SiteTells s
-  pub verdict-number : (v : Verdict) → site.numberOf v ≤ 10
+  pub verdict-number : (v : Verdict) → site.verdictNo v ≤ 10
   -- column "Place told": 0 with 0 and 1, and 1 with 5
-  pub verdict-place : (v : Verdict) → (site.numberOf v ≤ 1 → firstPlace v ≡ 0) × (site.numberOf v ≡ 5 → firstPlace v ≡ 1)
+  pub verdict-place : (v : Verdict) → (site.verdictNo v ≤ 1 → firstPlace v ≡ 0) × (site.verdictNo v ≡ 5 → firstPlace v ≡ 1)
   -- "Unused place numbers are 0.": 9 alone tells two
-  pub verdict-second-place : (v : Verdict) → (site.numberOf v ≡ 9 → ⊥) → secondPlace v ≡ 0
+  pub verdict-second-place : (v : Verdict) → (site.verdictNo v ≡ 9 → ⊥) → secondPlace v ≡ 0
 
 -- ---- crate `run`
 
@@ -331,7 +332,7 @@ HeadingTold s (heading.Rows from) = (length s ≤ limit) × (1 ≤ from) × (fro
 
 -- 13: "list lent .. is shorter"; else the text stands in front, its length told, and the rest is unaltered
 pub record TextTells (text out : List ℕ) : Type 0 where
-  pub number : Told (13 unless length text ≤ length out then done) (printedNumber (printedOf text out))
+  pub number : NumberBy (13 unless length text ≤ length out then done) (printedNo (printedOf text out))
   pub a-length : length text ≤ length out → printedOf text out ≡ Text (length text)
   pub in-front : length text ≤ length out → run.written text out ≡ text ++ drop (length text) out
   pub unaltered : length out < length text → run.written text out ≡ out
@@ -340,7 +341,7 @@ pub record RunAnswers : Type 0 where
   pub heading-of : (s : List ℕ) → HeadingTold s (headingOf s)
   pub panel-text : (site steps out : List ℕ) → TextTells (panelText site steps) out
   pub where-text : (site steps out : List ℕ) → TextTells (whereText site steps) out
-  pub printed-number : (p : Printed) → OneOf (0 ∷ 13 ∷ []) (printedNumber p)
+  pub printed-number : (p : Printed) → OneOf (0 ∷ 13 ∷ []) (printedNo p)
   -- the programs lend lists of 81,920 and of 512 bytes: no text is too long for them, so that each is printed whole
   pub panel-fits : (site steps : List ℕ) → length (panelText site steps) ≤ 81920
   pub where-fits : (site steps : List ℕ) → length (whereText site steps) ≤ 512

@@ -20,21 +20,22 @@ use Rattle.door.specs.Door.{door}
 use Rattle.record.specs.Doors.{doorOf, Shaped}
 use Rattle.record.specs.Sound.{Sound}
 use Rattle.record.specs.Steps.{Admitted, First, stepOf}
-use Rattle.record.specs.Run.{Row, lastOf}
+use Rattle.record.specs.Run.{lastOf}
+use Rattle.phases.specs.Kinds.{StepRow}
 use Rattle.record.specs.Lights.{ticks, Each, NoGreenNoWalk, NoRed}
 use Rattle.record.specs.Questions.{wayAnswerOf, wayWritten}
 use Rattle.verdict.specs.declared.Verdict.the-variants.{Accepted}
-use Rattle.says.specs.Site.{siteOf}
-use Rattle.says.specs.Gives.{Obeys}
-use Rattle.says.specs.Accepted.{AcceptedRecord}
+use Rattle.site_sheet.specs.Site.{siteOf}
+use Rattle.site_sheet.specs.Gives.{Obeys}
+use Rattle.site_sheet.specs.Accepted.{AcceptedRecord}
 use Rattle.chapter.specs.Context.{Axioms}
 use Rattle.chapter.specs.Machines.{Same}
 use Rattle.chapter.specs.M4.{Event}
 use Rattle.chapter.specs.M4 as m4
 use Rattle.chapter.specs.Reading.{constantsOf, stateOf, StandsFor, Enabled, Idle, FirstFailing, RunOfEach}
-use Rattle.serving.specs.Serving.{heardOf}
+use Rattle.card_by_card.specs.Serving.{heardOf}
 use Rattle.demands.specs.Cases.{freshSite}
-use Rattle.demands.specs.WholeRun.{runOf01, stepsIn}
+use Rattle.demands.specs.WholeRun.{runOf01, rowsHeard}
 
 -- ---- the way outside
 
@@ -101,18 +102,18 @@ pub data NothingToAlter (r : Record) (d : ℕ) : Kind → Type 0 where
 -- "A green door that gets neither another `green` nor a `walk` is expired after exactly as many of its own ticks as its countdown
 -- says": s is what the order for a light answered at door d. The countdown is the span less the door's ticks since, whatever happens
 -- at other doors, and with the last of them the light is out; the person whom the door holds stays
-pub record Counts (r : Record) (d : ℕ) (s : Step) (Quiet : Row → Type 0) (burning out span : ℕ) : Type 0 where
-  pub burns : (rows : List Row) → Each Quiet rows → ticks d rows < span
+pub record CountsDown (r : Record) (d : ℕ) (s : Step) (Quiet : StepRow → Type 0) (burning out span : ℕ) : Type 0 where
+  pub burns : (rows : List StepRow) → Each Quiet rows → ticks d rows < span
       → doorOf (lastOf (s .next) rows) d ≡ door burning (getD (r .holder) d 0) (span - ticks d rows)
-  pub ends : (rows : List Row) → Each Quiet rows → ticks d rows + 1 ≡ span
+  pub ends : (rows : List StepRow) → Each Quiet rows → ticks d rows + 1 ≡ span
       → (p : ℕ) → doorOf (stepOf (lastOf (s .next) rows) Tick d p .next) d ≡ door out (getD (r .holder) d 0) 0
 
 -- "`green`: .. countdown 300. `red`: .. countdown 20."
 abbrev pub GreenCounts : Record → ℕ → Step → Type 0
-GreenCounts r d s = Counts r d s (NoGreenNoWalk d) green expired 300
+GreenCounts r d s = CountsDown r d s (NoGreenNoWalk d) green expired 300
 
 abbrev pub RedCounts : Record → ℕ → Step → Type 0
-RedCounts r d s = Counts r d s (NoRed d) red dimmed 20
+RedCounts r d s = CountsDown r d s (NoRed d) red dimmed 20
 
 -- ---- all of it
 
@@ -123,7 +124,7 @@ pub record DemandTwo : Type 1 where
   pub holds : (s : List ℕ) → siteOf s .verdict ≡ Accepted → AcceptedRecord s
   -- "so everybody has a signed way outside which they may use": in every sound record, and so after any list of steps
   pub way-outside-of : (r : Record) → Shaped r → Sound r → (p : ℕ) → p < r .people → WayOutside r p
-  pub way-outside : (s : List ℕ) → siteOf s .verdict ≡ Accepted → (rows : List Row) (p : ℕ) → p < siteOf s .«record» .people
+  pub way-outside : (s : List ℕ) → siteOf s .verdict ≡ Accepted → (rows : List StepRow) (p : ℕ) → p < siteOf s .«record» .people
       → WayOutside (lastOf (siteOf s .«record») rows) p
   -- "Each step does what the events of the location access chapter .. say: it acts exactly when it may,"
   pub step : (r : Record) → Shaped r → Sound r → (k : Kind) (d p : ℕ) → StepIsEvent r k d p
@@ -133,11 +134,11 @@ pub record DemandTwo : Type 1 where
   -- of steps is a run of each of its machines
   pub axioms : (r : Record) → Sound r → Axioms (constantsOf r)
   pub starts : (s : List ℕ) → siteOf s .verdict ≡ Accepted → m4.Start (constantsOf (siteOf s .«record»)) (stateOf (siteOf s .«record»))
-  pub runs : (r : Record) → Shaped r → Sound r → (rows : List Row) → RunOfEach r rows
+  pub runs : (r : Record) → Shaped r → Sound r → (rows : List StepRow) → RunOfEach r rows
   -- "a panel that refuses everything, one that gives one light always": on 01's site the steps of 01's run are answered as 01 prints
   -- them: row 2 is granted and row 6 denied, 9 and 10 are refused and all others act; and `where` prints 1 of person 0, 0 of person 1
-  pub whole-run : heardOf freshSite (stepsIn runOf01) ≡ runOf01
-  pub whole-run-places : (getD (lastOf freshSite (stepsIn runOf01) .place) 0 0 ≡ 1) × (getD (lastOf freshSite (stepsIn runOf01) .place) 1 0 ≡ 0)
+  pub whole-run : heardOf freshSite (rowsHeard runOf01) ≡ runOf01
+  pub whole-run-places : (getD (lastOf freshSite (rowsHeard runOf01) .place) 0 0 ≡ 1) × (getD (lastOf freshSite (rowsHeard runOf01) .place) 1 0 ≡ 0)
   -- "one whose steps alter nothing": a step that acts alters the record, but for those that have nothing to alter
   pub alters : (r : Record) → Shaped r → Sound r → (k : Kind) (d p : ℕ) → stepOf r k d p .answer ≡ Done
       → (stepOf r k d p .next ≡ r) ↔ NothingToAlter r d k

@@ -12,7 +12,7 @@ use Rattle.grammar.specs.declared.cut.Cell.{Cell}
 use Rattle.grammar.specs.declared.cut.Cells.{Cells}
 use Rattle.grammar.specs.declared.cut.FieldCut.{FieldCut}
 use Rattle.grammar.specs.declared.cut.RowCut.{RowCut}
-use Rattle.grammar.specs.declared.count.Counted.{Counted}
+use Rattle.grammar.specs.declared.count.RowsCounted.{RowsCounted}
 use Rattle.grammar.specs.declared.say.Number.{Number}
 use Rattle.grammar.specs.Cut.{cutField, cutRow}
 use Rattle.grammar.specs.Rows.{countRows}
@@ -23,8 +23,8 @@ use Rattle.tables.specs.declared.Found.{Found}
 use Rattle.tables.specs.declared.RightFound.{RightFound}
 use Rattle.tables.specs.declared.WayTold.{WayTold}
 use Rattle.tables.specs.Tables.{mayBe}
-use Rattle.tables.specs.Tests.{inRange, firstNoExit, firstStray, firstNoDoor, firstNoRight, firstShutOut, lawfulB}
-use Rattle.tables.specs.Way.{wayOf, told, written}
+use Rattle.tables.specs.Tests.{planInRange, firstNoExit, firstStray, firstNoDoor, firstNoRight, firstShutOut, lawfulB}
+use Rattle.tables.specs.Way.{wayOf, wayToldIn, wayWrittenIn}
 use Rattle.door.specs.declared.Door.{Door}
 use Rattle.record.specs.declared.record.Record.{Record}
 use Rattle.phases.specs.declared.table.Kind.{Kind}
@@ -36,15 +36,15 @@ use Rattle.record.specs.declared.series.Ran.{Ran}
 use Rattle.record.specs.declared.questions.PlaceAnswer.{PlaceAnswer}
 use Rattle.record.specs.declared.questions.GrantAnswer.{GrantAnswer}
 use Rattle.record.specs.declared.questions.WayAnswer.{WayAnswer}
-use Rattle.phases.specs.Answers.{numberOf}
+use Rattle.phases.specs.Answers.{answerNo}
 use Rattle.door.specs.declared.does.Does.{Does}
 use Rattle.phases.specs.Phase.{grants}
 use Rattle.door.specs.Door.{freeDoor, doorIn}
 use Rattle.door.specs.Fits.{fieldsFit}
 use Rattle.door.specs.Does.{effect}
-use Rattle.sound.specs.Grants.{grantOf}
-use Rattle.sound.specs.Reasons.{firstReason}
-use Rattle.sound.specs.SoundTest.{listsSound}
+use Rattle.granting.specs.Grants.{grantOf}
+use Rattle.granting.specs.Reasons.{firstReason}
+use Rattle.soundness.specs.SoundTest.{listsSound}
 use Rattle.record.specs.Doors.{freshRecord}
 use Rattle.phases.specs.Kinds.{kindOf}
 use Rattle.phases.specs.Table.{asked}
@@ -53,15 +53,15 @@ use Rattle.record.specs.Steps.{First, stepOf, toldBy}
 use Rattle.record.specs.Run.{runOf, answersOf, phasesOf, reasonsOf}
 use Rattle.record.specs.Questions.{placeOf, grantedTo, wayAnswerOf, wayWritten}
 use Rattle.verdict.specs.declared.Verdict.{Verdict}
-use Rattle.says.specs.declared.SiteRead.{SiteRead}
-use Rattle.says.specs.Site.{siteOf, firstPlace, secondPlace}
-use Rattle.says.specs.Site as site
-use Rattle.says.specs.Gives.{Gives}
-use Rattle.printed.specs.declared.steps.Heading.{Heading}
-use Rattle.printed.specs.declared.text.Printed.{Printed}
-use Rattle.printed.specs.Steps.{headingOf}
-use Rattle.printed.specs.Printed.{panelText, whereText, printedOf, printedNumber}
-use Rattle.printed.specs.Printed as run
+use Rattle.site_sheet.specs.declared.SiteRead.{SiteRead}
+use Rattle.site_sheet.specs.Site.{siteOf, firstPlace, secondPlace}
+use Rattle.site_sheet.specs.Site as site
+use Rattle.site_sheet.specs.Gives.{Gives}
+use Rattle.run_text.specs.declared.steps.Heading.{Heading}
+use Rattle.run_text.specs.declared.text.Printed.{Printed}
+use Rattle.run_text.specs.Steps.{headingOf}
+use Rattle.run_text.specs.Printed.{panelText, whereText, printedOf, printedNo}
+use Rattle.run_text.specs.Printed as run
 
 -- two answers that a promise allows are equal
 abbrev pub Unique : {A : Type 0} → (A → Type 0) → Type 0
@@ -70,7 +70,7 @@ Unique {A} Promise = (x y : A) → Promise x → Promise y → x ≡ y
 pub record SheetUnique : Type 0 where
   pub cut-field : (s : List ℕ) (at : ℕ) → Unique (λ (x : FieldCut). x ≡ cutField s at)
   pub cut-row : (s : List ℕ) (at : ℕ) → Unique (λ (x : RowCut). x ≡ cutRow s at)
-  pub count-rows : (s : List ℕ) → Unique (λ (x : Counted). x ≡ countRows s)
+  pub count-rows : (s : List ℕ) → Unique (λ (x : RowsCounted). x ≡ countRows s)
   pub reader-new : (sheet : RefT (List ℕ)) → Unique (λ (x : Reader). x ≡ readerAt sheet 0)
   pub reader-row : (reader : Reader) → Unique (λ (x : RowCut). x ≡ cutRow (now (reader .sheet)) (reader .at))
   pub reader-past-row : (reader : Reader) → Unique (λ (x : Reader). x ≡ movedOn reader)
@@ -89,7 +89,7 @@ pub record TablesUnique : Type 0 where
 pub record RulesUnique : Type 0 where
   pub may-be : (right : List Bool) (p l : ℕ) → Unique (λ (x : Bool). x ≡ mayBe right p l)
   pub in-range : (people locations doors : ℕ) (origin destination exit : List ℕ)
-      → Unique (λ (x : Bool). x ≡ inRange people locations doors origin destination exit)
+      → Unique (λ (x : Bool). x ≡ planInRange people locations doors origin destination exit)
   pub first-no-exit : (locations : ℕ) (given : List Bool) → Unique (λ (x : Found). x ≡ firstNoExit locations given)
   pub first-stray : (locations : ℕ) (exit : List ℕ) → Unique (λ (x : Found). x ≡ firstStray locations exit)
   pub first-no-door : (locations doors : ℕ) (origin destination exit : List ℕ)
@@ -102,10 +102,10 @@ pub record RulesUnique : Type 0 where
       → Unique (λ (x : Bool). x ≡ lawfulB people locations doors origin destination exit right)
   -- the answer, and the lent list at exit
   pub way-out : (locations : ℕ) (exit : List ℕ) (from : ℕ) (list : List ℕ)
-      → Unique (λ (x : WayTold × List ℕ). (x .0 ≡ told (wayOf locations exit from) list) × (x .1 ≡ written (wayOf locations exit from) list))
+      → Unique (λ (x : WayTold × List ℕ). (x .0 ≡ wayToldIn (wayOf locations exit from) list) × (x .1 ≡ wayWrittenIn (wayOf locations exit from) list))
 
 pub record DoorUnique : Type 0 where
-  pub answer-number : (a : Answer) → Unique (λ (x : ℕ). x ≡ numberOf a)
+  pub answer-number : (a : Answer) → Unique (λ (x : ℕ). x ≡ answerNo a)
   pub kind-of : (n : ℕ) → Unique (λ (x : Kind). x ≡ kindOf n)
   pub allowed-in : (k : Kind) (phase : ℕ) → Unique (λ (x : Bool). x ≡ asked k phase)
   pub grants : (phase : ℕ) → Unique (λ (x : Bool). x ≡ grants phase)
@@ -156,7 +156,7 @@ pub record RecordUnique : Type 0 where
 
 pub record SiteUnique : Type 0 where
   pub read-site : (s : List ℕ) → Unique (λ (x : SiteRead). x ≡ siteOf s)
-  pub verdict-number : (v : Verdict) → Unique (λ (x : ℕ). x ≡ site.numberOf v)
+  pub verdict-number : (v : Verdict) → Unique (λ (x : ℕ). x ≡ site.verdictNo v)
   pub verdict-place : (v : Verdict) → Unique (λ (x : ℕ). x ≡ firstPlace v)
   pub verdict-second-place : (v : Verdict) → Unique (λ (x : ℕ). x ≡ secondPlace v)
 
@@ -167,7 +167,7 @@ pub record RunUnique : Type 0 where
       → Unique (λ (x : Printed × List ℕ). (x .0 ≡ printedOf (panelText site steps) out) × (x .1 ≡ run.written (panelText site steps) out))
   pub where-text : (site steps out : List ℕ)
       → Unique (λ (x : Printed × List ℕ). (x .0 ≡ printedOf (whereText site steps) out) × (x .1 ≡ run.written (whereText site steps) out))
-  pub printed-number : (p : Printed) → Unique (λ (x : ℕ). x ≡ printedNumber p)
+  pub printed-number : (p : Printed) → Unique (λ (x : ℕ). x ≡ printedNo p)
 
 -- Where the papers say an answer by its conditions, not by a definition, they too allow one alone: the number and the place that
 -- the table gives a site sheet, and the first reason that applies.

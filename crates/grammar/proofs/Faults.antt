@@ -15,7 +15,7 @@ use Rattle.grammar.specs.declared.cut.Move.the-variants.{Go, NextField, 
 use Rattle.grammar.specs.declared.cut.RowCut.{RowCut}
 use Rattle.grammar.specs.declared.cut.RowCut.the-variants.{Cut, NoRow, Broken}
 use Rattle.grammar.specs.Grammar.{quote, cr, lf}
-use Rattle.grammar.specs.Cut.{emptyAt, bareMove, shutMove, moveOf, after, endOf, pushed, rowEnd, rowFrom}
+use Rattle.grammar.specs.Cut.{emptyAt, bareMove, shutMove, moveOf, afterMove, endOf, pushed, rowEnd, rowFrom}
 
 -- a row that ends at byte n
 abbrev pub EndsAt : ℕ → RowCut → Type 0
@@ -109,7 +109,7 @@ module _ (k : Cell) (cells : Cells) (i : ℕ) where
         → ((m : Mode) (c : Cell) → StuckIf (rowFrom m c cells (i + 1)) bs (i + 1) (rowFrom m c cells (i + 1) bs))
         → StuckIf (rowFrom Fresh (emptyAt (i + 1)) (pushed cells k) (i + 1)) bs (i + 1) (rowFrom Fresh (emptyAt (i + 1)) (pushed cells k) (i + 1) bs)
         → StuckIf (rowFrom mode k cells i) (b ∷ bs) i
-        (after move (λ m c. rowFrom m c cells (i + 1) bs) (rowFrom Fresh (emptyAt (i + 1)) (pushed cells k) (i + 1) bs) (Cut (pushed cells k) (i + 1)) (Broken i))
+        (afterMove move (λ m c. rowFrom m c cells (i + 1) bs) (rowFrom Fresh (emptyAt (i + 1)) (pushed cells k) (i + 1) bs) (Cut (pushed cells k) (i + 1)) (Broken i))
     unfolding rowFrom
     stuck-turn (Go m c) e on new =
         later (rowFrom mode k cells i) (rowFrom m c cells (i + 1)) b bs i (rowFrom m c cells (i + 1) bs) (λ xs. rw e) (on m c)

@@ -18,7 +18,7 @@ use Rattle.grammar.specs.declared.cut.FieldCut.the-variants.{Next, Last,
 use Rattle.grammar.specs.declared.cut.RowCut.{RowCut}
 use Rattle.grammar.specs.declared.cut.RowCut.the-variants.{Cut, NoRow, Broken}
 use Rattle.grammar.specs.Grammar.{quote, comma, cr, lf, Plain, AllPlain, none, more, Field, bare, quoted, Written, is-bare, is-quoted, escape, fieldText, Row, only, _then_, WrittenRow, written-only, written-then, rowText}
-use Rattle.grammar.specs.Cut.{emptyAt, bareMove, shutMove, moveOf, after, endOf, fieldFrom, pushed, rowEnd, rowFrom}
+use Rattle.grammar.specs.Cut.{emptyAt, bareMove, shutMove, moveOf, afterMove, endOf, fieldFrom, pushed, rowEnd, rowFrom}
 
 -- a choice has what both of its sides have
 either : {A : Type 0} (P : A → Type 0) {x y : A} (q : Bool) → (q ≡ true → P x) → (q ≡ false → P y) → P (cond q x y)
@@ -136,7 +136,7 @@ shift done b bs = append-assoc done (b ∷ []) bs
 module _ (done : List ℕ) (b : ℕ) (bs : List ℕ) where
   field-turn : (move : Move) (k : Cell) (i : ℕ) → Moved done b move
       → ((m : Mode) (c : Cell) → Part m (done ++ (b ∷ [])) → FieldFound ((done ++ (b ∷ [])) ++ bs) (fieldFrom m c (i + 1) bs))
-      → FieldFound (done ++ (b ∷ bs)) (after move (λ m c. fieldFrom m c (i + 1) bs) (Next k (i + 1)) (Last k (i + 1)) (Fault i))
+      → FieldFound (done ++ (b ∷ bs)) (afterMove move (λ m c. fieldFrom m c (i + 1) bs) (Next k (i + 1)) (Last k (i + 1)) (Fault i))
   field-turn (Go m c) k i p on = rw (shift done b bs) at (on m c p)
   field-turn NextField k i p on = record { rest = bs; is = rw (shift done b bs) at (longer (comma ∷ []) bs p) }
   field-turn RowEnd k i p on = with-crlf bs (rw (shift done b bs) at (longer (cr ∷ lf ∷ []) bs p))
@@ -180,7 +180,7 @@ module _ (done : List ℕ) (b : ℕ) (bs : List ℕ) (cells : Cells) where
   row-turn : (move : Move) (k : Cell) (i : ℕ) → Moved done b move
       → ((m : Mode) (c : Cell) → Part m (done ++ (b ∷ [])) → RowFound ((done ++ (b ∷ [])) ++ bs) (rowFrom m c cells (i + 1) bs))
       → RowFound bs (rowFrom Fresh (emptyAt (i + 1)) (pushed cells k) (i + 1) bs)
-      → RowFound (done ++ (b ∷ bs)) (after move (λ m c. rowFrom m c cells (i + 1) bs) (rowFrom Fresh (emptyAt (i + 1)) (pushed cells k) (i + 1) bs) (Cut (pushed cells k) (i + 1)) (Broken i))
+      → RowFound (done ++ (b ∷ bs)) (afterMove move (λ m c. rowFrom m c cells (i + 1) bs) (rowFrom Fresh (emptyAt (i + 1)) (pushed cells k) (i + 1) bs) (Cut (pushed cells k) (i + 1)) (Broken i))
   unfolding rowText
   row-turn (Go m c) k i p on new = rw (shift done b bs) at (on m c p)
   row-turn NextField k i p on new = next-found bs (rowFrom Fresh (emptyAt (i + 1)) (pushed cells k) (i + 1) bs) (rw (shift done b bs) at (longer (comma ∷ []) bs p)) new

@@ -12,7 +12,8 @@ use lib.Dec.{ltb, eqb}
 use borrow.Author.Tests.{ltb-true, ltb-false, le-ltb, eqb-true, eqb-false, eq-eqb, ne-eqb}
 use Rattle.grammar.specs.declared.cut.Cell.{Cell}
 use Rattle.grammar.specs.declared.say.Number.the-variants.{Is, None}
-use Rattle.grammar.specs.Say.{width, Digit, valueFrom, ProperNumber, sameBytes, digitsFrom, needlessZero, numberOf, numberAt}
+use Rattle.grammar.specs.Say.{Digit, valueFrom, ProperNumber, sameBytes, digitsFrom, needlessZero, numberIn, numberAt}
+use Rattle.grammar.specs.Sizes.{width}
 use Rattle.grammar.proofs.Steps.{here}
 
 -- ---- two lists of bytes
@@ -163,15 +164,15 @@ needless-not c z h = go (ltb (length c) 2) refl
     go false q = absurd (eqb-false (getD c 0 0) 48 (rw q at z) h)
 
 -- a proper number is read, with its value
-pub proper-read : (c : List ℕ) {n : ℕ} → ProperNumber c n → numberOf c ≡ Is n
-unfolding numberOf
+pub proper-read : (c : List ℕ) {n : ℕ} → ProperNumber c n → numberIn c ≡ Is n
+unfolding numberIn
 proper-read c p =
     let a : length c ≡ 0 → ⊥ = λ e. let s = p .some in omega arith in
     rw (ne-eqb (length c) 0 a, le-ltb width (length c) (p .few), needless-none c (p .no-needless-zero), p .value) (digits-value 0 c (p .digits))
 
 -- and only a proper number is read
-pub read-proper : (c : List ℕ) {n : ℕ} → numberOf c ≡ Is n → ProperNumber c n
-unfolding numberOf
+pub read-proper : (c : List ℕ) {n : ℕ} → numberIn c ≡ Is n → ProperNumber c n
+unfolding numberIn
 read-proper c {n} e = go₁ (eqb (length c) 0) refl
   where
     go₃ : (q : Bool) → eqb (length c) 0 ≡ false → ltb width (length c) ≡ false → needlessZero c ≡ q → ProperNumber c n

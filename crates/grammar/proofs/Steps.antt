@@ -19,7 +19,7 @@ use Rattle.grammar.specs.declared.cut.RowCut.{RowCut}
 use Rattle.grammar.specs.declared.cut.RowCut.the-variants.{Cut, NoRow, Broken}
 use borrow.Author.Tests.{lt-ltb}
 use native.Mathlib.Nat.{add-sub-of-le}
-use Rattle.grammar.specs.Cut.{moveOf, after, endOf, emptyAt, noCells, pushed, fieldFrom, cutField, rowEnd, rowFrom, cutRow}
+use Rattle.grammar.specs.Cut.{moveOf, afterMove, endOf, emptyAt, noCells, pushed, fieldFrom, cutField, rowEnd, rowFrom, cutRow}
 
 -- a position within a sheet: its byte and what stands behind it
 pub here : (s : List ℕ) (i : ℕ) → i < length s → drop i s ≡ getD s i 0 ∷ drop (i + 1) s
@@ -28,7 +28,7 @@ here s i h = rw (add-one, drop-cons s i 0)
 module _ (s : List ℕ) (i : ℕ) (mode : Mode) (cell : Cell) where
   pub field-more : i < length s
       → fieldFrom mode cell i (drop i s)
-      ≡ after (moveOf mode cell (getD s i 0) (i + 1)) (λ m c. fieldFrom m c (i + 1) (drop (i + 1) s)) (Next cell (i + 1)) (Last cell (i + 1)) (Fault i)
+      ≡ afterMove (moveOf mode cell (getD s i 0) (i + 1)) (λ m c. fieldFrom m c (i + 1) (drop (i + 1) s)) (Next cell (i + 1)) (Last cell (i + 1)) (Fault i)
   unfolding fieldFrom
   field-more h = rw (here s i h)
 
@@ -40,7 +40,7 @@ module _ (s : List ℕ) (i : ℕ) (mode : Mode) (cell : Cell) where
   pub field-turn : {answer : FieldCut} {move : Move} → answer ≡ fieldFrom mode cell i (drop i s) → i < length s
       → moveOf mode cell (getD s i 0) (i + 1) ≡ move
       → answer
-      ≡ after move (λ m c. fieldFrom m c (i + 1) (drop (i + 1) s)) (Next cell (i + 1)) (Last cell (i + 1)) (Fault i)
+      ≡ afterMove move (λ m c. fieldFrom m c (i + 1) (drop (i + 1) s)) (Next cell (i + 1)) (Last cell (i + 1)) (Fault i)
   field-turn e h m = e ∙ field-more h ∙ rw m
 
 -- what a row is once its next field has been cut
@@ -63,8 +63,8 @@ module _ (s : List ℕ) (cells : Cells) where
 
   turns : (move : Move) (cell : Cell) (i : ℕ) (bs : List ℕ) → bs ≡ drop (i + 1) s
       → ((m : Mode) (c : Cell) → rowFrom m c cells (i + 1) bs ≡ rowAfter s cells (fieldFrom m c (i + 1) bs))
-      → after move (λ m c. rowFrom m c cells (i + 1) bs) (rowFrom Fresh (emptyAt (i + 1)) (pushed cells cell) (i + 1) bs) (Cut (pushed cells cell) (i + 1)) (Broken i)
-      ≡ rowAfter s cells (after move (λ m c. fieldFrom m c (i + 1) bs) (Next cell (i + 1)) (Last cell (i + 1)) (Fault i))
+      → afterMove move (λ m c. rowFrom m c cells (i + 1) bs) (rowFrom Fresh (emptyAt (i + 1)) (pushed cells cell) (i + 1) bs) (Cut (pushed cells cell) (i + 1)) (Broken i)
+      ≡ rowAfter s cells (afterMove move (λ m c. fieldFrom m c (i + 1) bs) (Next cell (i + 1)) (Last cell (i + 1)) (Fault i))
   turns (Go m c) cell i bs e more = more m c
   turns NextField cell i bs e more = rw e
   turns RowEnd cell i bs e more = refl
@@ -103,7 +103,7 @@ module _ (i n : ℕ) where
   field-wider (Fault byte) h = omega arith
 
   field-turns-in : (move : Move) (cell : Cell) (go : Mode → Cell → FieldCut) → ((m : Mode) (c : Cell) → FieldIn (go m c) (i + 1) (i + 1 + n))
-      → FieldIn (after move go (Next cell (i + 1)) (Last cell (i + 1)) (Fault i)) i (i + suc n)
+      → FieldIn (afterMove move go (Next cell (i + 1)) (Last cell (i + 1)) (Fault i)) i (i + suc n)
   field-turns-in (Go m c) cell go more = field-wider (go m c) (more m c)
   field-turns-in NextField cell go more = omega arith
   field-turns-in RowEnd cell go more = omega arith
@@ -116,7 +116,7 @@ module _ (i n : ℕ) where
 
   row-turns-in : (move : Move) (cells : Cells) (go : Mode → Cell → RowCut) (new : RowCut)
       → ((m : Mode) (c : Cell) → RowIn (go m c) (i + 1) (i + 1 + n)) → RowIn new (i + 1) (i + 1 + n)
-      → RowPast (after move go new (Cut cells (i + 1)) (Broken i)) i (i + suc n)
+      → RowPast (afterMove move go new (Cut cells (i + 1)) (Broken i)) i (i + suc n)
   row-turns-in (Go m c) cells go new more last = row-wider (go m c) (more m c)
   row-turns-in NextField cells go new more last = row-wider new last
   row-turns-in RowEnd cells go new more last = omega arith

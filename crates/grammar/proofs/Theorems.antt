@@ -14,8 +14,8 @@ use Rattle.grammar.specs.declared.cut.FieldCut.the-variants.{Next, Last}
 use Rattle.grammar.specs.declared.cut.RowCut.{RowCut}
 use Rattle.grammar.specs.declared.cut.RowCut.the-variants.{Cut, NoRow, Broken}
 use Rattle.grammar.specs.declared.say.Number.the-variants.{Is}
-use Rattle.grammar.specs.declared.count.Counted.the-variants.{All, UpTo}
-use Rattle.grammar.specs.Grammar.{comma, cr, lf, Field, content, Written, fieldText, Row, WrittenRow, rowText, RowAt, ended, Sheet, Leads}
+use Rattle.grammar.specs.declared.count.RowsCounted.the-variants.{All, UpTo}
+use Rattle.grammar.specs.Grammar.{comma, cr, lf, Field, content, Written, fieldText, Row, WrittenRow, rowText, RowAt, ended, Sheet, BeginsWith}
 use Rattle.grammar.specs.Say.{ProperNumber, isWord, saysWords, numberAt}
 use Rattle.grammar.specs.Cut.{emptyAt, noCells, fieldFrom, cutField, cutRow}
 use Rattle.grammar.specs.Where.{holdsQuote, cellOf, cellsOf, CellHolds, RowHolds}
@@ -45,7 +45,7 @@ module _ (s : List ℕ) (at : ℕ) where
 
   -- Where the row cutter reports a fault at a byte, that byte is the first at which no continuation could be a well-formed row
   -- behind the rows so far, or the sheet's length where it ends too soon.
-  pub fault-is-first : {byte : ℕ} (rs : List Row) → Leads s rs (drop at s) → cutRow s at ≡ Broken byte → FirstFault s rs byte
+  pub fault-is-first : {byte : ℕ} (rs : List Row) → BeginsWith s rs (drop at s) → cutRow s at ≡ Broken byte → FirstFault s rs byte
   fault-is-first {byte} rs l e = whole.fault-first s at byte rs l e
 
   -- A reader goes over the rows in their order: what is read from its place on is the row there, and then what is read from the

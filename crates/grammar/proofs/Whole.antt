@@ -14,8 +14,8 @@ use Rattle.grammar.specs.declared.cut.Mode.the-variants.{Fresh}
 use Rattle.grammar.specs.declared.cut.Cells.{Cells}
 use Rattle.grammar.specs.declared.cut.RowCut.{RowCut}
 use Rattle.grammar.specs.declared.cut.RowCut.the-variants.{Cut, NoRow, Broken}
-use Rattle.grammar.specs.declared.count.Counted.the-variants.{All, UpTo}
-use Rattle.grammar.specs.Grammar.{cr, lf, Row, rowText, RowAt, ended, last, Sheet, no-row, row, Leads, here, on}
+use Rattle.grammar.specs.declared.count.RowsCounted.the-variants.{All, UpTo}
+use Rattle.grammar.specs.Grammar.{cr, lf, Row, rowText, RowAt, ended, last, Sheet, no-row, row, BeginsWith, here, on}
 use Rattle.grammar.specs.Cut.{emptyAt, noCells, rowFrom, cutRow}
 use Rattle.grammar.specs.Rows.{Rows, onRow, rowsFrom, countFrom, countRows}
 use Rattle.grammar.specs.Rows
@@ -30,7 +30,7 @@ use Rattle.grammar.proofs.Exact.{row-read, rest-shorter, cut-from, row-
 -- ---- rows in front of a text
 
 -- two readings of the same text that begin with the same rows go on alike
-sheet-behind : {text : List ℕ} (rs : List Row) {ss : List Row} {t : List ℕ} → Leads text rs t → Sheet text (rs ++ ss) → Sheet t ss
+sheet-behind : {text : List ℕ} (rs : List Row) {ss : List Row} {t : List ℕ} → BeginsWith text rs t → Sheet text (rs ++ ss) → Sheet t ss
 sheet-behind [] here s = s
 sheet-behind (r ∷ rs) (on a l) (row b s) = sheet-behind rs l (rw (row-unique b a refl .behind) at s)
 
@@ -39,12 +39,12 @@ record RestSheet (t : List ℕ) : Type 0 where
   rows : List Row
   is : Sheet t rows
 
-sheet-after : {text : List ℕ} {rs ss : List Row} {t : List ℕ} → Leads text rs t → Sheet text ss → RestSheet t
+sheet-after : {text : List ℕ} {rs ss : List Row} {t : List ℕ} → BeginsWith text rs t → Sheet text ss → RestSheet t
 sheet-after here s = record { rows = _; is = s }
 sheet-after (on a l) no-row = absurd (no-row-at a refl)
 sheet-after (on a l) (row b s) = sheet-after l (rw (row-unique b a refl .behind) at s)
 
-leads-nothing : {text : List ℕ} {rs : List Row} {t : List ℕ} → Leads text rs t → [] ≡ text → [] ≡ t
+leads-nothing : {text : List ℕ} {rs : List Row} {t : List ℕ} → BeginsWith text rs t → [] ≡ text → [] ≡ t
 leads-nothing here e = e
 leads-nothing (on a l) e = absurd (no-row-at a e)
 
@@ -54,19 +54,19 @@ rowsText [] = []
 rowsText (r ∷ rs) = rowText r ++ (cr ∷ lf ∷ rowsText rs)
 
 -- rows with a byte behind them all end in CRLF, so they stand as they are in front of any other text
-leads-text : {text : List ℕ} {rs : List Row} {t : List ℕ} → Leads text rs t → (t ≡ [] → ⊥) → text ≡ rowsText rs ++ t
+leads-text : {text : List ℕ} {rs : List Row} {t : List ℕ} → BeginsWith text rs t → (t ≡ [] → ⊥) → text ≡ rowsText rs ++ t
 unfolding rowsText
 leads-text here n = refl
 leads-text {rs = r ∷ rs} {t} (on (ended w e) l) n = e ∙ rw (leads-text l n) (sym (append-assoc (rowText r) (cr ∷ lf ∷ rowsText rs) t))
 leads-text (on (last w e h) l) n = absurd (n (sym (leads-nothing l refl)))
 
-leads-any : {text : List ℕ} {rs : List Row} {t : List ℕ} (other : List ℕ) → Leads text rs t → (t ≡ [] → ⊥) → Leads (rowsText rs ++ other) rs other
+leads-any : {text : List ℕ} {rs : List Row} {t : List ℕ} (other : List ℕ) → BeginsWith text rs t → (t ≡ [] → ⊥) → BeginsWith (rowsText rs ++ other) rs other
 unfolding rowsText
 leads-any other here n = here
 leads-any {rs = r ∷ rs} other (on (ended w e) l) n = on (ended w (append-assoc (rowText r) (cr ∷ lf ∷ rowsText rs) other)) (leads-any other l n)
 leads-any other (on (last w e h) l) n = absurd (n (sym (leads-nothing l refl)))
 
-leads-sheet : {text : List ℕ} {rs ss : List Row} {t : List ℕ} → Leads text rs t → Sheet t ss → Sheet text (rs ++ ss)
+leads-sheet : {text : List ℕ} {rs ss : List Row} {t : List ℕ} → BeginsWith text rs t → Sheet t ss → Sheet text (rs ++ ss)
 leads-sheet here s = s
 leads-sheet (on a l) s = row a (leads-sheet l s)
 
@@ -75,7 +75,7 @@ leads-sheet (on a l) s = row a (leads-sheet l s)
 -- what is read of a sheet from a position on
 data Reading (s : List ℕ) (at : ℕ) (rows : Rows) : Type 0 where
   is-sheet : (rs : List Row) → Sheet (drop at s) rs → ((n : ℕ) → countFrom n rows ≡ All (n + length rs)) → Reading s at rows
-  is-broken : (rs : List Row) (stop byte : ℕ) → Leads (drop at s) rs (drop stop s) → cutRow s stop ≡ Broken byte
+  is-broken : (rs : List Row) (stop byte : ℕ) → BeginsWith (drop at s) rs (drop stop s) → cutRow s stop ≡ Broken byte
       → ((n : ℕ) → countFrom n rows ≡ UpTo (n + length rs) byte) → Reading s at rows
 
 module _ (s : List ℕ) (at : ℕ) where
@@ -199,7 +199,7 @@ one-row {text} i (Cut cells next) e n h (row-crlf r rest w q) =
     go zero p k m = omega arith
     go (suc x) p k m = omega arith
 
-module _ (s : List ℕ) (at byte : ℕ) (rs : List Row) (l : Leads s rs (drop at s)) (e : cutRow s at ≡ Broken byte) where
+module _ (s : List ℕ) (at byte : ℕ) (rs : List Row) (l : BeginsWith s rs (drop at s)) (e : cutRow s at ≡ Broken byte) where
   byte-there : at < length s
   byte-there = broken-there-in s at e
 

@@ -46,17 +46,17 @@ endOf Open cell len = Fault len
 endOf Shut cell len = Last cell len
 endOf Return cell len = Fault len
 
-abbrev pub after {ℓ} : {A : Type ℓ} → Move → (Mode → Cell → A) → A → A → A → A
-after (Go mode cell) go next last wrong = go mode cell
-after NextField go next last wrong = next
-after RowEnd go next last wrong = last
-after Wrong go next last wrong = wrong
+abbrev pub afterMove {ℓ} : {A : Type ℓ} → Move → (Mode → Cell → A) → A → A → A → A
+afterMove (Go mode cell) go next last wrong = go mode cell
+afterMove NextField go next last wrong = next
+afterMove RowEnd go next last wrong = last
+afterMove Wrong go next last wrong = wrong
 
 -- the rest of a field, from byte i on
 unfoldable pub fieldFrom : Mode → Cell → ℕ → List ℕ → FieldCut
 fieldFrom mode cell i [] = endOf mode cell i
 fieldFrom mode cell i (b ∷ bs) =
-    after (moveOf mode cell b (i + 1)) (λ m c. fieldFrom m c (i + 1) bs) (Next cell (i + 1)) (Last cell (i + 1)) (Fault i)
+    afterMove (moveOf mode cell b (i + 1)) (λ m c. fieldFrom m c (i + 1) bs) (Next cell (i + 1)) (Last cell (i + 1)) (Fault i)
 
 unfoldable pub cutField : List ℕ → ℕ → FieldCut
 cutField s at = fieldFrom Fresh (emptyAt at) at (drop at s)
@@ -83,7 +83,7 @@ rowEnd cells (Fault byte) = Broken byte
 unfoldable pub rowFrom : Mode → Cell → Cells → ℕ → List ℕ → RowCut
 rowFrom mode cell cells i [] = rowEnd cells (endOf mode cell i)
 rowFrom mode cell cells i (b ∷ bs) =
-    after (moveOf mode cell b (i + 1)) (λ m c. rowFrom m c cells (i + 1) bs) (rowFrom Fresh (emptyAt (i + 1)) (pushed cells cell) (i + 1) bs)
+    afterMove (moveOf mode cell b (i + 1)) (λ m c. rowFrom m c cells (i + 1) bs) (rowFrom Fresh (emptyAt (i + 1)) (pushed cells cell) (i + 1) bs)
     (Cut (pushed cells cell) (i + 1)) (Broken i)
 
 unfoldable pub cutRow : List ℕ → ℕ → RowCut

@@ -88,6 +88,6 @@ fields (only f) = f ∷ []
 fields (f then r) = f ∷ fields r
 
 -- a text begins with these rows, and this is the rest of the text behind them
-pub data Leads : List ℕ → List Row → List ℕ → Type 0 where
-  here : {text : List ℕ} → Leads text [] text
-  on : {text : List ℕ} {r : Row} {rest : List ℕ} {rs : List Row} {end : List ℕ} → RowAt text r rest → Leads rest rs end → Leads text (r ∷ rs) end
+pub data BeginsWith : List ℕ → List Row → List ℕ → Type 0 where
+  here : {text : List ℕ} → BeginsWith text [] text
+  on : {text : List ℕ} {r : Row} {rest : List ℕ} {rs : List Row} {end : List ℕ} → RowAt text r rest → BeginsWith rest rs end → BeginsWith text (r ∷ rs) end

@@ -2,6 +2,7 @@
 -- the cutters' answers out, and `Past` where the row behind a row begins; `Where` says where a written row's fields lie, and
 -- `Meaning` what the theorems of proofs/Theorems.antt show: that the answers are the grammar's.
 pub mod Grammar
+pub mod Sizes
 pub mod Say
 pub mod Cut
 pub mod Where

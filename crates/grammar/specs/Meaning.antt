@@ -5,7 +5,7 @@ use mathlib.Core.List.{List, [], _∷_, _++_}
 use lib.ListN.{length, take, drop}
 use Rattle.grammar.specs.declared.cut.Cells.{Cells}
 use Rattle.grammar.specs.declared.cut.RowCut.the-variants.{Broken}
-use Rattle.grammar.specs.Grammar.{Row, RowAt, Sheet, Leads, content, fields}
+use Rattle.grammar.specs.Grammar.{Row, RowAt, Sheet, BeginsWith, content, fields}
 use Rattle.grammar.specs.Cut.{cutRow}
 use Rattle.grammar.specs.Where.{RowHolds, fieldOf}
 
@@ -28,7 +28,7 @@ pub record SheetOf (s : List ℕ) (n : ℕ) : Type 0 where
 pub record BrokenAfter (s : List ℕ) (n byte : ℕ) : Type 0 where
   pub rows : List Row
   pub stop : ℕ
-  pub leads : Leads s rows (drop stop s)
+  pub leads : BeginsWith s rows (drop stop s)
   pub broken-there : cutRow s stop ≡ Broken byte
   pub count : length rows ≡ n
 

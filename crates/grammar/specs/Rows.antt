@@ -5,8 +5,8 @@ use lib.ListN.{length}
 use Rattle.grammar.specs.declared.cut.Cells.{Cells}
 use Rattle.grammar.specs.declared.cut.RowCut.{RowCut}
 use Rattle.grammar.specs.declared.cut.RowCut.the-variants.{Cut, NoRow, Broken}
-use Rattle.grammar.specs.declared.count.Counted.{Counted}
-use Rattle.grammar.specs.declared.count.Counted.the-variants.{All, UpTo}
+use Rattle.grammar.specs.declared.count.RowsCounted.{RowsCounted}
+use Rattle.grammar.specs.declared.count.RowsCounted.the-variants.{All, UpTo}
 use Rattle.grammar.specs.Cut.{cutRow}
 
 -- what is read from a position on: no more rows, a row broken at a byte, or a row's cells and what is read behind it
@@ -28,10 +28,10 @@ readRows (suc most) s at = onRow (cutRow s at) (λ next. readRows most s next)
 unfoldable pub rowsFrom : List ℕ → ℕ → Rows
 rowsFrom s at = readRows (suc (length s - at)) s at
 
-unfoldable pub countFrom : ℕ → Rows → Counted
+unfoldable pub countFrom : ℕ → Rows → RowsCounted
 countFrom n no-more = All n
 countFrom n (broken byte) = UpTo n byte
 countFrom n (row cells rows) = countFrom (n + 1) rows
 
-unfoldable pub countRows : List ℕ → Counted
+unfoldable pub countRows : List ℕ → RowsCounted
 countRows s = countFrom 0 (rowsFrom s 0)

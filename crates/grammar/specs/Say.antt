@@ -5,14 +5,11 @@ use mathlib.Core.Bool.{Bool, true, false, cond}
 use mathlib.Core.List.{List, [], _∷_}
 use lib.ListN.{length, getD, take, drop}
 use lib.Dec.{leb, ltb, eqb}
+use Rattle.grammar.specs.Sizes.{width}
 use Rattle.grammar.specs.declared.cut.Cell.{Cell}
 use Rattle.grammar.specs.declared.cut.Cells.{Cells}
 use Rattle.grammar.specs.declared.say.Number.{Number}
 use Rattle.grammar.specs.declared.say.Number.the-variants.{Is, None}
-
--- "A number is 1 to 3 digits with no needless leading zero."
-abbrev pub width : ℕ
-width = 3
 
 pub record Digit (b : ℕ) : Type 0 where
   pub from : 48 ≤ b
@@ -38,8 +35,8 @@ digitsFrom n (b ∷ bs) = cond (ltb b 48) None (cond (ltb 57 b) None (digitsFrom
 unfoldable pub needlessZero : List ℕ → Bool
 needlessZero c = cond (ltb (length c) 2) false (eqb (getD c 0 0) 48)
 
-unfoldable pub numberOf : List ℕ → Number
-numberOf c = cond (eqb (length c) 0) None (cond (ltb width (length c)) None (cond (needlessZero c) None (digitsFrom 0 c)))
+unfoldable pub numberIn : List ℕ → Number
+numberIn c = cond (eqb (length c) 0) None (cond (ltb width (length c)) None (cond (needlessZero c) None (digitsFrom 0 c)))
 
 -- the bytes of a cell; none where it doesn't lie in the sheet
 unfoldable pub contentAt : List ℕ → Cell → List ℕ
@@ -58,7 +55,7 @@ unfoldable pub isWord : List ℕ → Cell → List ℕ → Bool
 isWord s cell word = cond (cell .doubled) false (sameBytes (contentAt s cell) word)
 
 unfoldable pub numberAt : List ℕ → Cell → Number
-numberAt s cell = cond (cell .doubled) None (numberOf (contentAt s cell))
+numberAt s cell = cond (cell .doubled) None (numberIn (contentAt s cell))
 
 -- a row of three fields, and they are these words
 unfoldable pub saysWords : List ℕ → Cells → List ℕ → List ℕ → List ℕ → Bool

@@ -1,11 +1,11 @@
 // `panel`: reads site.csv and steps.csv of the folder that it is run in and writes what the panel answers to each row. The text
 // is proved in the crate `run`; here is only reading and writing.
-use files::ROOM;
-use files::read_sheet;
 use libc::STDOUT_FILENO;
-use printed::text::Printed;
 use run::text::MOST_PANEL_TEXT;
 use run::text::panel_text;
+use run_text::text::Printed;
+use sheet_files::ROOM;
+use sheet_files::read_sheet;
 
 fn main() {
     let mut site = [0u8; ROOM];

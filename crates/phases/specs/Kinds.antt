@@ -74,3 +74,9 @@ namesPerson Lapsed = false
 namesPerson Dark = false
 namesPerson Ack = false
 namesPerson Unknown = false
+
+-- one step of a list, as a row of a steps sheet asks for it: "Each names a door; `card` also a person."
+pub record StepRow : Type 0 where
+  pub kind : Kind
+  pub at : ℕ
+  pub person : ℕ

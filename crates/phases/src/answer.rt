@@ -1,6 +1,6 @@
 // How a step, a run or a question ends, and why a card is denied.
 ghost use mathlib.Core.Path.{_≡_};
-ghost use Rattle.phases.specs.Answers.{numberOf};
+ghost use Rattle.phases.specs.Answers.{answerNo};
 
 // How a step, a run or a question ends.
 pub enum Answer {
@@ -14,7 +14,7 @@ pub enum Answer {
 impl Answer {
     // The paper's number of this answer.
     pub fn number(self) -> u8
-        ensures { λ r. ⌜ r ≡ numberOf self ⌝ }
+        ensures { λ r. ⌜ r ≡ answerNo self ⌝ }
     {
         match self {
             Answer::Done => 0,

@@ -20,11 +20,11 @@ use Rattle.record.specs.declared.record.Record.{Record}
 use Rattle.record.specs.declared.questions.PlaceAnswer.the-variants as place
 use Rattle.record.specs.declared.questions.GrantAnswer.the-variants as grant
 use Rattle.record.specs.Doors.{Shaped}
-use Rattle.sound.specs.Grants.{GrantAt}
+use Rattle.granting.specs.Grants.{GrantAt}
 use Rattle.record.specs.Sound.{rightAt, Sound}
 use Rattle.record.specs.Questions.{placeOf, grantedTo}
-use Rattle.sound.proofs.Cases.{below-or-not}
-use Rattle.sound.proofs.Granting.{grant-is, no-door}
+use Rattle.tables.proofs.Cases.{below-or-not}
+use Rattle.granting.proofs.Granting.{grant-is, no-door}
 use Rattle.record.proofs.Tells.{sound-tells}
 
 -- where a person may be is a location of the site

@@ -25,7 +25,7 @@ use Rattle.record.specs.Sound.{Sound}
 use Rattle.door.specs.Does.{effect}
 use Rattle.record.specs.Steps.{reasonFor, act, refused, exist, soundStep}
 use Rattle.record.specs.Deeds.{recordOf, carried, Known}
-use Rattle.sound.proofs.Cases.{below-or-not}
+use Rattle.tables.proofs.Cases.{below-or-not}
 use Rattle.phases.proofs.Entries.{table-allows}
 
 -- a sound record's lists are as `judge` asks

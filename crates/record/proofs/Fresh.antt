@@ -13,7 +13,7 @@ use Rattle.phases.specs.Phase.{keeps, grants, lit, leastCount, mostCount}
 use Rattle.door.specs.Door.{door, freeDoor}
 use Rattle.record.specs.Doors.{doorOf, zeros, freshRecord, Shaped}
 use Rattle.record.specs.Sound.{ZeroBeyond, DoorOk, Sound}
-use Rattle.sound.proofs.Cases.{below-or-not}
+use Rattle.tables.proofs.Cases.{below-or-not}
 
 pub zeros-long : (n : ℕ) → length (zeros n) ≡ n
 unfolding zeros

@@ -12,9 +12,9 @@ use Rattle.door.specs.declared.Door.{Door}
 use Rattle.record.specs.declared.record.Record.{Record}
 use Rattle.phases.specs.Phase.{grants}
 use Rattle.record.specs.Doors.{doorOf, putDoor, putAt, Shaped}
-use Rattle.sound.specs.Grants.{GrantAt}
+use Rattle.granting.specs.Grants.{GrantAt}
 use Rattle.record.specs.Sound.{DoorOk, Sound}
-use Rattle.sound.proofs.Cases.{same-or-not}
+use Rattle.tables.proofs.Cases.{same-or-not}
 
 -- ---- what is read after a put
 

@@ -36,17 +36,17 @@ use Rattle.record.specs.declared.steps.Step.{Step}
 use Rattle.phases.specs.Phase.{free, granted, green, walked, expired, denied, red, dimmed, closed, keeps, grants, lit}
 use Rattle.door.specs.Door.{door}
 use Rattle.record.specs.Doors.{doorOf, Tables, tablesOf, Shaped}
-use Rattle.sound.specs.Grants.{GrantAt}
+use Rattle.granting.specs.Grants.{GrantAt}
 use Rattle.record.specs.Sound.{Sound}
 use Rattle.record.specs.SoundTest.{soundB}
-use Rattle.phases.specs.Kinds.{allows, namesPerson}
+use Rattle.phases.specs.Kinds.{StepRow, allows, namesPerson}
 use Rattle.door.specs.declared.does.Does.{Does}
 use Rattle.door.specs.declared.does.Does.the-variants.{Stays, Turns, Moves}
 use Rattle.door.specs.Does.{burns, effect}
 use Rattle.record.specs.Steps.{reasonFor, Admitted, First, act, refused, exist, doing, soundStep, stepOf}
-use Rattle.record.specs.Run.{Row, rowOf, lastOf}
+use Rattle.record.specs.Run.{rowOf, lastOf}
 use Rattle.record.specs.Lights.{isTick, ticks, Each, end, step, NoGreenNoWalk, NoRed}
-use Rattle.sound.proofs.Cases.{either, same-or-not, one-of}
+use Rattle.tables.proofs.Cases.{either, same-or-not, one-of}
 use Rattle.record.proofs.Keep.{put-same, put-other}
 use Rattle.record.proofs.Tells.{sound-tells}
 use Rattle.record.proofs.Right.{reason-first, admitted, admits, grants-keeps, right, act-sound, act-shaped}
@@ -374,7 +374,7 @@ tick-after r d p ph h n c sh s hd at to =
     ∙ (ap (λ (x : Door). becomes x (effect Tick p (reasonFor r d (getD (r .holder) d 0)) x)) at ∙ to)
 
 -- a step that isn't a tick of door d and that phase ph doesn't allow there
-abbrev Calm : ℕ → ℕ → Row → Type 0
+abbrev Calm : ℕ → ℕ → StepRow → Type 0
 Calm ph d row = row .at ≡ d → isTick (row .kind) ≡ false → allows (row .kind) ph ≡ false
 
 is-tick : (k : Kind) → isTick k ≡ true → k ≡ Tick
@@ -391,11 +391,11 @@ is-tick Dark e = absurd (false≢true e)
 is-tick Ack e = absurd (false≢true e)
 is-tick Unknown e = absurd (false≢true e)
 
-ticks-on : (d : ℕ) (row : Row) (rows : List Row) → row .at ≡ d → isTick (row .kind) ≡ true → ticks d (row ∷ rows) ≡ suc (ticks d rows)
+ticks-on : (d : ℕ) (row : StepRow) (rows : List StepRow) → row .at ≡ d → isTick (row .kind) ≡ true → ticks d (row ∷ rows) ≡ suc (ticks d rows)
 unfolding ticks andAlso
 ticks-on d row rows at tick = simp (eq-eqb _ _ at, tick)
 
-ticks-idle : (d : ℕ) (row : Row) (rows : List Row) → isTick (row .kind) ≡ false → ticks d (row ∷ rows) ≡ ticks d rows
+ticks-idle : (d : ℕ) (row : StepRow) (rows : List StepRow) → isTick (row .kind) ≡ false → ticks d (row ∷ rows) ≡ ticks d rows
 unfolding ticks andAlso
 ticks-idle d row rows idle = rw idle (go (eqb (row .at) d))
   where
@@ -403,12 +403,12 @@ ticks-idle d row rows idle = rw idle (go (eqb (row .at) d))
     go true = refl
     go false = refl
 
-ticks-off : (d : ℕ) (row : Row) (rows : List Row) → (row .at ≡ d → ⊥) → ticks d (row ∷ rows) ≡ ticks d rows
+ticks-off : (d : ℕ) (row : StepRow) (rows : List StepRow) → (row .at ≡ d → ⊥) → ticks d (row ∷ rows) ≡ ticks d rows
 unfolding ticks andAlso
 ticks-off d row rows away = simp (ne-eqb _ _ away)
 
 -- a light burns at door d with a countdown of n, of which the list takes off fewer
-record Burning (ph d h : ℕ) (rows : List Row) (r : Record) (n : ℕ) : Type 0 where
+record Burning (ph d h : ℕ) (rows : List StepRow) (r : Record) (n : ℕ) : Type 0 where
   shaped : Shaped r
   sound : Sound r
   exists : d < r .doors
@@ -417,7 +417,7 @@ record Burning (ph d h : ℕ) (rows : List Row) (r : Record) (n : ℕ) : Type 0 
   more : ticks d rows < n
 
 -- one step of a calm list: a tick of the door takes one off, all else nothing
-calm-row : (r : Record) (d ph h n : ℕ) (row : Row) (rows : List Row) → Burning ph d h (row ∷ rows) r n → Calm ph d row
+calm-row : (r : Record) (d ph h n : ℕ) (row : StepRow) (rows : List StepRow) → Burning ph d h (row ∷ rows) r n → Calm ph d row
     → (m : ℕ) × (doorOf (rowOf r row .next) d ≡ door ph h m) × (m + ticks d (row ∷ rows) ≡ n + ticks d rows)
 calm-row r d ph h n row rows b calm = ⊎-elim (λ is. ticking is (isTick (row .kind)) refl) other (same-or-not (row .at) d)
   where
@@ -436,7 +436,7 @@ calm-row r d ph h n row rows b calm = ⊎-elim (λ is. ticking is (isTick (row .
         (n, rw none (b .now), ap (λ (t : ℕ). n + t) (ticks-idle d row rows idle))
 
 -- a light burns on through a calm list that has fewer ticks of its door than its countdown, and has lost just those
-calm-burns : (ph d h : ℕ) (rows : List Row) → Each (Calm ph d) rows → (r : Record) (n : ℕ) → Burning ph d h rows r n
+calm-burns : (ph d h : ℕ) (rows : List StepRow) → Each (Calm ph d) rows → (r : Record) (n : ℕ) → Burning ph d h rows r n
     → Burning ph d h [] (lastOf r rows) (n - ticks d rows)
 unfolding lastOf ticks
 calm-burns ph d h rows end r n b =
@@ -465,19 +465,19 @@ calm-burns ph d h rows (step {row} {rows = rest} calm calms) r n b =
     }))
 
 -- and the tick that takes the last one off puts it out
-calm-ends : (ph d h : ℕ) (rows : List Row) → Each (Calm ph d) rows → (r : Record) (n p : ℕ) → Burning ph d h rows r n → ticks d rows + 1 ≡ n
+calm-ends : (ph d h : ℕ) (rows : List StepRow) → Each (Calm ph d) rows → (r : Record) (n p : ℕ) → Burning ph d h rows r n → ticks d rows + 1 ≡ n
     → doorOf (stepOf (lastOf r rows) Tick d p .next) d ≡ door (burnt ph) h 0
 calm-ends ph d h rows calms r n p b last =
     let left = calm-burns ph d h rows calms r n b in
     tick-after (lastOf r rows) d p ph h (n - ticks d rows) (door (burnt ph) h 0) (left .shaped) (left .sound) (left .exists) (left .now)
     (tick-last ph h (n - ticks d rows) p (reasonFor (lastOf r rows) d (getD (lastOf r rows .holder) d 0)) (b .burns) (omega arith))
 
-each-as : {P Q : Row → Type 0} {rows : List Row} → ((row : Row) → P row → Q row) → Each P rows → Each Q rows
+each-as : {P Q : StepRow → Type 0} {rows : List StepRow} → ((row : StepRow) → P row → Q row) → Each P rows → Each Q rows
 each-as f end = end
 each-as f (step {row} p ps) = step (f row p) (each-as f ps)
 
 -- which steps a burning light allows, but for ticks
-calm-green : (d : ℕ) (row : Row) → NoGreenNoWalk d row → Calm green d row
+calm-green : (d : ℕ) (row : StepRow) → NoGreenNoWalk d row → Calm green d row
 unfolding allows isTick orElse
 calm-green d row no-row is = go (row .kind) (no-row .no-green is) (no-row .no-walk is)
   where
@@ -494,7 +494,7 @@ calm-green d row no-row is = go (row .kind) (no-row .no-green is) (no-row .no-wa
     go Ack g w t = refl
     go Unknown g w t = refl
 
-calm-red : (d : ℕ) (row : Row) → NoRed d row → Calm red d row
+calm-red : (d : ℕ) (row : StepRow) → NoRed d row → Calm red d row
 unfolding allows isTick orElse
 calm-red d row no-row is = go (row .kind) (no-row .no-red is)
   where
@@ -513,7 +513,7 @@ calm-red d row no-row is = go (row .kind) (no-row .no-red is)
 
 -- "A green door that gets neither another `green` nor a `walk` is expired after exactly as many of its own ticks as its
 -- countdown says", whatever happens at other doors: with fewer ticks it is green, its countdown less the ticks; ..
-pub green-burns : (r : Record) (d h n : ℕ) (rows : List Row) → Shaped r → Sound r → d < r .doors → doorOf r d ≡ door green h n
+pub green-burns : (r : Record) (d h n : ℕ) (rows : List StepRow) → Shaped r → Sound r → d < r .doors → doorOf r d ≡ door green h n
     → Each (NoGreenNoWalk d) rows → ticks d rows < n → doorOf (lastOf r rows) d ≡ door green h (n - ticks d rows)
 unfolding lit orElse
 green-burns r d h n rows sh s hd at quiet few =
@@ -521,7 +521,7 @@ green-burns r d h n rows sh s hd at quiet few =
     (record { shaped = sh; sound = s; exists = hd; burns = refl; now = at; more = few }) .now
 
 -- .. and the tick with which they are as many makes it expired, still holding the person
-pub green-expires : (r : Record) (d h n p : ℕ) (rows : List Row) → Shaped r → Sound r → d < r .doors → doorOf r d ≡ door green h n
+pub green-expires : (r : Record) (d h n p : ℕ) (rows : List StepRow) → Shaped r → Sound r → d < r .doors → doorOf r d ≡ door green h n
     → Each (NoGreenNoWalk d) rows → ticks d rows + 1 ≡ n → doorOf (stepOf (lastOf r rows) Tick d p .next) d ≡ door expired h 0
 unfolding lit orElse burnt
 green-expires r d h n p rows sh s hd at quiet last =
@@ -529,14 +529,14 @@ green-expires r d h n p rows sh s hd at quiet last =
     (record { shaped = sh; sound = s; exists = hd; burns = refl; now = at; more = omega arith }) last
 
 -- the same of a red door that gets no other `red`
-pub red-burns : (r : Record) (d h n : ℕ) (rows : List Row) → Shaped r → Sound r → d < r .doors → doorOf r d ≡ door red h n
+pub red-burns : (r : Record) (d h n : ℕ) (rows : List StepRow) → Shaped r → Sound r → d < r .doors → doorOf r d ≡ door red h n
     → Each (NoRed d) rows → ticks d rows < n → doorOf (lastOf r rows) d ≡ door red h (n - ticks d rows)
 unfolding lit orElse
 red-burns r d h n rows sh s hd at quiet few =
     calm-burns red d h rows (each-as (calm-red d) quiet) r n
     (record { shaped = sh; sound = s; exists = hd; burns = refl; now = at; more = few }) .now
 
-pub red-dims : (r : Record) (d h n p : ℕ) (rows : List Row) → Shaped r → Sound r → d < r .doors → doorOf r d ≡ door red h n
+pub red-dims : (r : Record) (d h n p : ℕ) (rows : List StepRow) → Shaped r → Sound r → d < r .doors → doorOf r d ≡ door red h n
     → Each (NoRed d) rows → ticks d rows + 1 ≡ n → doorOf (stepOf (lastOf r rows) Tick d p .next) d ≡ door dimmed h 0
 unfolding lit orElse burnt
 red-dims r d h n p rows sh s hd at quiet last =
@@ -546,20 +546,20 @@ red-dims r d h n p rows sh s hd at quiet last =
 -- ---- a whole list of steps
 
 -- a sound record stays sound over a list of steps
-pub run-sound : (r : Record) (rows : List Row) → Shaped r → Sound r → Sound (lastOf r rows)
+pub run-sound : (r : Record) (rows : List StepRow) → Shaped r → Sound r → Sound (lastOf r rows)
 unfolding lastOf
 run-sound r [] sh s = s
 run-sound r (row ∷ rows) sh s =
     run-sound (rowOf r row .next) rows (shaped-stays r (row .kind) (row .at) (row .person) sh)
     (sound-stays r (row .kind) (row .at) (row .person) sh s)
 
-pub run-shaped : (r : Record) (rows : List Row) → Shaped r → Shaped (lastOf r rows)
+pub run-shaped : (r : Record) (rows : List StepRow) → Shaped r → Shaped (lastOf r rows)
 unfolding lastOf
 run-shaped r [] sh = sh
 run-shaped r (row ∷ rows) sh = run-shaped (rowOf r row .next) rows (shaped-stays r (row .kind) (row .at) (row .person) sh)
 
 -- and keeps its tables
-pub run-tables : (r : Record) (rows : List Row) → tablesOf (lastOf r rows) ≡ tablesOf r
+pub run-tables : (r : Record) (rows : List StepRow) → tablesOf (lastOf r rows) ≡ tablesOf r
 unfolding lastOf
 run-tables r [] = refl
 run-tables r (row ∷ rows) = run-tables (rowOf r row .next) rows ∙ tables-stay r (row .kind) (row .at) (row .person)

@@ -18,14 +18,14 @@ use Rattle.door.specs.Door.{door}
 use Rattle.record.specs.Doors.{doorOf, putDoor, Shaped}
 use Rattle.record.specs.Sound.{DoorOk, Sound}
 use Rattle.phases.specs.Kinds.{allows, namesPerson}
-use Rattle.sound.specs.Grants.{GrantAt, hasGrant}
+use Rattle.granting.specs.Grants.{GrantAt, hasGrant}
 use Rattle.door.specs.declared.does.Does.{Does}
 use Rattle.door.specs.declared.does.Does.the-variants.{Stays, Turns, Moves}
 use Rattle.door.specs.Does.{burns, effect}
-use Rattle.sound.specs.Reasons.{firstReason}
+use Rattle.granting.specs.Reasons.{firstReason}
 use Rattle.record.specs.Steps.{reasonFor, Admitted, First, none, away, barred, busy, act}
-use Rattle.sound.proofs.Cases.{either, same-or-not, one-of}
-use Rattle.sound.proofs.Granting.{no-grant, has-grant, none-found, one-found}
+use Rattle.tables.proofs.Cases.{either, same-or-not, one-of}
+use Rattle.granting.proofs.Granting.{no-grant, has-grant, none-found, one-found}
 use Rattle.record.proofs.Keep.{put-same, put-grant, put-sound, put-shaped, at-sound, at-shaped}
 
 -- ---- a denial's reason

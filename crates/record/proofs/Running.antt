@@ -14,21 +14,21 @@ use Rattle.record.specs.declared.record.Record.{Record}
 use Rattle.record.specs.declared.steps.Step.{Step}
 use Rattle.phases.specs.declared.answer.Answer.the-variants.{Done, TooShort, Unsound}
 use Rattle.record.specs.declared.series.Ran.{Ran}
-use Rattle.phases.specs.Answers.{numberOf}
+use Rattle.phases.specs.Answers.{answerNo}
 use Rattle.record.specs.Doors.{Shaped}
-use Rattle.phases.specs.Kinds.{kindOf}
+use Rattle.phases.specs.Kinds.{StepRow, kindOf}
 use Rattle.record.specs.Sound.{Sound}
 use Rattle.record.specs.SoundTest.{soundB}
 use Rattle.record.specs.Steps.{soundStep, stepOf}
-use Rattle.record.specs.Run.{Row, rowOf, rowsOf, lastOf, toldOf, answerTold, phaseTold, reasonTold, roomFor, ranOf, tellingOf}
+use Rattle.record.specs.Run.{rowOf, rowsOf, lastOf, toldOf, answerTold, phaseTold, reasonTold, roomFor, ranOf, tellingOf}
 use Rattle.record.proofs.Laws.{sound-steps, sound-stays, shaped-stays}
 
 -- the steps from the one at i on
-abbrev pub rowsFrom : List ℕ → List ℕ → List ℕ → ℕ → List Row
+abbrev pub rowsFrom : List ℕ → List ℕ → List ℕ → ℕ → List StepRow
 rowsFrom steps doors persons i = rowsOf (drop i steps) (drop i doors) (drop i persons)
 
 -- the step at i
-abbrev pub rowAt : List ℕ → List ℕ → List ℕ → ℕ → Row
+abbrev pub rowAt : List ℕ → List ℕ → List ℕ → ℕ → StepRow
 rowAt steps doors persons i = record { kind = kindOf (getD steps i 0); at = getD doors i 0; person = getD persons i 0 }
 
 -- there is a step at i
@@ -48,7 +48,7 @@ unfolding rowsOf
 rows-end steps doors persons i h = rw (drop-of-length-le steps h)
 
 -- what is still to be told of the steps from i on stands behind what was told of those before
-pub record Telling (tell : Step → ℕ) (r₀ : Record) (rows₀ : List Row) (list₀ : List ℕ) (r : Record) (rows : List Row) (list : List ℕ) (i : ℕ) : Type 0 where
+pub record Telling (tell : Step → ℕ) (r₀ : Record) (rows₀ : List StepRow) (list₀ : List ℕ) (r : Record) (rows : List StepRow) (list : List ℕ) (i : ℕ) : Type 0 where
   pub long : length list ≡ length list₀
   pub behind : sets list i (toldOf tell r rows) ≡ sets list₀ 0 (toldOf tell r₀ rows₀)
 
@@ -76,27 +76,27 @@ run-start s sh =
     }
 
 -- one more is told
-tell-more : (tell : Step → ℕ) (r₀ r : Record) (rows₀ rows rest : List Row) (row : Row) (list₀ list : List ℕ) (i : ℕ) (s : Step)
+tell-more : (tell : Step → ℕ) (r₀ r : Record) (rows₀ rows rest : List StepRow) (row : StepRow) (list₀ list : List ℕ) (i : ℕ) (s : Step)
     → rows ≡ row ∷ rest → s ≡ rowOf r row → Telling tell r₀ rows₀ list₀ r rows list i
     → Telling tell r₀ rows₀ list₀ (s .next) rest (set list i (tell s)) (i + 1)
 unfolding toldOf
 tell-more tell r₀ r rows₀ rows rest row list₀ list i s more is t =
     record {
       long = length-set list i (tell s) ∙ t .long;
-      behind = rw (add-one i, is) (subst (λ (x : List Row). sets list i (toldOf tell r x) ≡ sets list₀ 0 (toldOf tell r₀ rows₀)) more (t .behind));
+      behind = rw (add-one i, is) (subst (λ (x : List StepRow). sets list i (toldOf tell r x) ≡ sets list₀ 0 (toldOf tell r₀ rows₀)) more (t .behind));
     }
 
 -- all is told
-tell-end : {tell : Step → ℕ} {r₀ r : Record} {rows₀ rows : List Row} {list₀ list : List ℕ} {i : ℕ} → rows ≡ []
+tell-end : {tell : Step → ℕ} {r₀ r : Record} {rows₀ rows : List StepRow} {list₀ list : List ℕ} {i : ℕ} → rows ≡ []
     → Telling tell r₀ rows₀ list₀ r rows list i → list ≡ sets list₀ 0 (toldOf tell r₀ rows₀)
 unfolding toldOf
 tell-end {tell} {r₀} {r} {rows₀} {rows} {list₀} {list} {i} none t =
-    subst (λ (x : List Row). sets list i (toldOf tell r x) ≡ sets list₀ 0 (toldOf tell r₀ rows₀)) none (t .behind)
+    subst (λ (x : List StepRow). sets list i (toldOf tell r x) ≡ sets list₀ 0 (toldOf tell r₀ rows₀)) none (t .behind)
 
 module _ {steps doors persons answers₀ phases₀ reasons₀ : List ℕ} {r₀ : Record} {answers phases reasons : List ℕ} {r : Record} {i : ℕ} where
   pub run-more : (s : Step) → Running steps doors persons answers₀ phases₀ reasons₀ r₀ answers phases reasons r i → Has steps doors persons i
       → s ≡ soundStep r (kindOf (getD steps i 0)) (getD doors i 0) (getD persons i 0)
-      → Running steps doors persons answers₀ phases₀ reasons₀ r₀ (set answers i (numberOf (s .answer))) (set phases i (s .phase)) (set reasons i (s .reason)) (s .next) (i + 1)
+      → Running steps doors persons answers₀ phases₀ reasons₀ r₀ (set answers i (answerNo (s .answer))) (set phases i (s .phase)) (set reasons i (s .reason)) (s .next) (i + 1)
   unfolding lastOf
   run-more s run has is =
       let k = kindOf (getD steps i 0) in
@@ -131,7 +131,7 @@ module _ {steps doors persons answers₀ phases₀ reasons₀ : List ℕ} {r₀ 
 
 -- ---- how a run ends: s is what the test of soundness told, b whether there is room
 
-module _ (r : Record) (rows : List Row) (room : Bool) (s : Bool) (tested : s ≡ soundB r) where
+module _ (r : Record) (rows : List StepRow) (room : Bool) (s : Bool) (tested : s ≡ soundB r) where
   pub ran-unsound : not s ≡ true → _≡_ {A = Ran} (record { next = r; answer = Unsound }) (ranOf r rows room)
   unfolding ranOf
   ran-unsound no-way = rw (← tested, not-true s no-way)

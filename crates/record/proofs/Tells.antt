@@ -19,14 +19,14 @@ use Rattle.record.specs.declared.record.Record.{Record}
 use Rattle.phases.specs.Phase.{closed, keeps, grants, lit, leastCount, mostCount}
 use Rattle.door.specs.Door.{freeDoor}
 use Rattle.record.specs.Doors.{doorOf, Shaped}
-use Rattle.sound.specs.Grants.{GrantAt, hasGrant}
+use Rattle.granting.specs.Grants.{GrantAt, hasGrant}
 use Rattle.record.specs.Sound.{rightAt, ZeroBeyond, Sound}
-use Rattle.sound.specs.SoundTest.{zeroAt, zeroFrom, rightFits, rightsFit, placeFits, placesFit, doorFits, doorsFit}
+use Rattle.soundness.specs.SoundTest.{zeroAt, zeroFrom, rightFits, rightsFit, placeFits, placesFit, doorFits, doorsFit}
 use Rattle.door.specs.Fits.{holderFits, fieldsFit, isFree}
-use Rattle.sound.specs.SoundTest.{grantFits, grantsFit, soleGrant, soleGrants, zeroBeyond, doorsSound, listsSound}
+use Rattle.soundness.specs.SoundTest.{grantFits, grantsFit, soleGrant, soleGrants, zeroBeyond, doorsSound, listsSound}
 use Rattle.record.specs.SoundTest.{soundB}
-use Rattle.sound.proofs.Cases.{below-or-not}
-use Rattle.sound.proofs.Granting.{no-grant, none-found}
+use Rattle.tables.proofs.Cases.{below-or-not}
+use Rattle.granting.proofs.Granting.{no-grant, none-found}
 
 -- ---- tests put together
 

@@ -4,7 +4,7 @@ use mathlib.Core.Bool.{cond}
 use mathlib.Core.List.{List}
 use lib.ListN.{getD}
 use lib.Dec.{ltb}
-use Rattle.tables.specs.Way.{wayOf, told, written}
+use Rattle.tables.specs.Way.{wayOf, wayToldIn, wayWrittenIn}
 use Rattle.tables.specs.declared.Found.{Found}
 use Rattle.tables.specs.declared.Found.the-variants as found
 use Rattle.tables.specs.declared.WayTold.{WayTold}
@@ -16,7 +16,7 @@ use Rattle.record.specs.declared.questions.GrantAnswer.{GrantAnswer}
 use Rattle.record.specs.declared.questions.GrantAnswer.the-variants as grant
 use Rattle.record.specs.declared.questions.WayAnswer.{WayAnswer}
 use Rattle.record.specs.declared.questions.WayAnswer.the-variants as answer
-use Rattle.sound.specs.Grants.{grantOf}
+use Rattle.granting.specs.Grants.{grantOf}
 use Rattle.record.specs.SoundTest.{soundB}
 
 -- "where is a person"
@@ -24,10 +24,10 @@ unfoldable pub placeOf : Record → ℕ → PlaceAnswer
 placeOf r p = cond (soundB r) (cond (ltb p (r .people)) (place.At (getD (r .place) p 0)) place.NoSuch) place.Unsound
 
 -- its number, and the location: "A refused question tells its number, and 0 or none for all else."
-abbrev pub placeNumber : PlaceAnswer → ℕ
-placeNumber (place.At l) = 0
-placeNumber place.NoSuch = 11
-placeNumber place.Unsound = 14
+abbrev pub placeNo : PlaceAnswer → ℕ
+placeNo (place.At l) = 0
+placeNo place.NoSuch = 11
+placeNo place.Unsound = 14
 
 abbrev pub placeTold : PlaceAnswer → ℕ
 placeTold (place.At l) = l
@@ -43,11 +43,11 @@ unfoldable pub grantedTo : Record → ℕ → GrantAnswer
 grantedTo r p =
     cond (soundB r) (cond (ltb p (r .people)) (grantFound (grantOf (r .doors) (r .phase) (r .holder) p)) grant.NoSuch) grant.Unsound
 
-abbrev pub grantNumber : GrantAnswer → ℕ
-grantNumber (grant.Door d) = 0
-grantNumber grant.Nothing = 0
-grantNumber grant.NoSuch = 11
-grantNumber grant.Unsound = 14
+abbrev pub grantNo : GrantAnswer → ℕ
+grantNo (grant.Door d) = 0
+grantNo grant.Nothing = 0
+grantNo grant.NoSuch = 11
+grantNo grant.Unsound = 14
 
 abbrev pub grantTold : GrantAnswer → Found
 grantTold (grant.Door d) = found.At d
@@ -63,17 +63,17 @@ wayFound way.TooShort = answer.TooShort
 unfoldable pub wayAnswerOf : Record → ℕ → List ℕ → WayAnswer
 wayAnswerOf r l list =
     cond (soundB r)
-    (cond (ltb l (r .locations)) (wayFound (told (wayOf (r .locations) (r .exit) l) list)) answer.NoSuch)
+    (cond (ltb l (r .locations)) (wayFound (wayToldIn (wayOf (r .locations) (r .exit) l) list)) answer.NoSuch)
     answer.Unsound
 
 unfoldable pub wayWritten : Record → ℕ → List ℕ → List ℕ
-wayWritten r l list = cond (soundB r) (cond (ltb l (r .locations)) (written (wayOf (r .locations) (r .exit) l) list) list) list
+wayWritten r l list = cond (soundB r) (cond (ltb l (r .locations)) (wayWrittenIn (wayOf (r .locations) (r .exit) l) list) list) list
 
-abbrev pub wayNumber : WayAnswer → ℕ
-wayNumber (answer.Length n) = 0
-wayNumber answer.NoSuch = 11
-wayNumber answer.TooShort = 13
-wayNumber answer.Unsound = 14
+abbrev pub wayNo : WayAnswer → ℕ
+wayNo (answer.Length n) = 0
+wayNo answer.NoSuch = 11
+wayNo answer.TooShort = 13
+wayNo answer.Unsound = 14
 
 abbrev pub lengthTold : WayAnswer → ℕ
 lengthTold (answer.Length n) = n

@@ -11,34 +11,28 @@ use Rattle.phases.specs.declared.table.Kind.{Kind}
 use Rattle.record.specs.declared.steps.Step.{Step}
 use Rattle.phases.specs.declared.answer.Answer.the-variants.{Done, TooShort, Unsound}
 use Rattle.record.specs.declared.series.Ran.{Ran}
-use Rattle.phases.specs.Answers.{numberOf}
-use Rattle.phases.specs.Kinds.{kindOf}
+use Rattle.phases.specs.Answers.{answerNo}
+use Rattle.phases.specs.Kinds.{StepRow, kindOf}
 use Rattle.record.specs.SoundTest.{soundB}
 use Rattle.record.specs.Steps.{stepOf}
 
--- one step of a list: "Each names a door; `card` also a person."
-pub record Row : Type 0 where
-  pub kind : Kind
-  pub at : ℕ
-  pub person : ℕ
-
 -- what the step of a row hands back
-abbrev pub rowOf : Record → Row → Step
+abbrev pub rowOf : Record → StepRow → Step
 rowOf r row = stepOf r (row .kind) (row .at) (row .person)
 
 -- the record after the steps of a list, one after the other
-unfoldable pub lastOf : Record → List Row → Record
+unfoldable pub lastOf : Record → List StepRow → Record
 lastOf r [] = r
 lastOf r (row ∷ rows) = lastOf (rowOf r row .next) rows
 
 -- what is told of each step, one after the other
-unfoldable pub toldOf : (Step → ℕ) → Record → List Row → List ℕ
+unfoldable pub toldOf : (Step → ℕ) → Record → List StepRow → List ℕ
 toldOf tell r [] = []
 toldOf tell r (row ∷ rows) = tell (rowOf r row) ∷ toldOf tell (rowOf r row .next) rows
 
 -- "A step answers its number, the door's phase afterwards .. and the reason"
 abbrev pub answerTold : Step → ℕ
-answerTold s = numberOf (s .answer)
+answerTold s = answerNo (s .answer)
 
 abbrev pub phaseTold : Step → ℕ
 phaseTold s = s .phase
@@ -47,7 +41,7 @@ abbrev pub reasonTold : Step → ℕ
 reasonTold s = s .reason
 
 -- three lent lists of numbers are a list of steps: each step's number, its door and its person
-unfoldable pub rowsOf : List ℕ → List ℕ → List ℕ → List Row
+unfoldable pub rowsOf : List ℕ → List ℕ → List ℕ → List StepRow
 rowsOf [] doors persons = []
 rowsOf (k ∷ steps) [] persons = []
 rowsOf (k ∷ steps) (d ∷ doors) [] = []
@@ -64,7 +58,7 @@ roomIn steps doors persons answers phases reasons =
 
 -- What a run hands back: with an unsound record 14, with a list that is too short 13, and the record as it was; else the
 -- last record.
-unfoldable pub ranOf : Record → List Row → Bool → Ran
+unfoldable pub ranOf : Record → List StepRow → Bool → Ran
 ranOf r rows room =
     cond (soundB r)
     (cond room

@@ -11,7 +11,7 @@ use Rattle.record.specs.declared.record.Record.{Record}
 use Rattle.phases.specs.Phase.{closed, keeps, grants, leastCount, mostCount}
 use Rattle.door.specs.Door.{freeDoor}
 use Rattle.record.specs.Doors.{doorOf}
-use Rattle.sound.specs.Grants.{GrantAt}
+use Rattle.granting.specs.Grants.{GrantAt}
 
 -- the entry of the rights' table for person p and location l
 abbrev pub rightAt : List Bool → ℕ → ℕ → Bool

@@ -1,6 +1,6 @@
 -- What the code computes to tell whether a record is sound. That it tells `Sound` exactly is proved in `proofs/Tells.antt`.
 use mathlib.Core.Bool.{Bool}
-use Rattle.sound.specs.SoundTest.{listsSound}
+use Rattle.soundness.specs.SoundTest.{listsSound}
 use Rattle.record.specs.declared.record.Record.{Record}
 
 unfoldable pub soundB : Record → Bool

@@ -16,8 +16,8 @@ use Rattle.door.specs.declared.does.Does.the-variants.{Stays, Turns, Moves}
 use Rattle.door.specs.Does.{effect}
 use Rattle.record.specs.Doors.{doorOf, putDoor, putAt}
 use Rattle.phases.specs.Kinds.{allows, namesPerson}
-use Rattle.sound.specs.Grants.{GrantAt}
-use Rattle.sound.specs.Reasons.{firstReason}
+use Rattle.granting.specs.Grants.{GrantAt}
+use Rattle.granting.specs.Reasons.{firstReason}
 use Rattle.record.specs.SoundTest.{soundB}
 
 -- the reason for which a record denies person p door d, 0 for none

@@ -3,7 +3,7 @@
 ghost use mathlib.Core.Path.{_≡_};
 ghost use Rattle.record.specs.Questions.{placeOf, grantFound, grantedTo, wayFound, wayAnswerOf, wayWritten};
 use crate::record::Record;
-use sound::grants::grant_of;
+use granting::grant_of;
 use tables::Found;
 use tables::WayTold;
 use tables::lists::byte_at;

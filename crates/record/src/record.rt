@@ -5,7 +5,7 @@ ghost use Rattle.record.specs.Doors.{freshRecord};
 ghost use Rattle.record.specs.SoundTest.{soundB};
 ghost use Rattle.record.specs.Deeds.{holding};
 use door::Door;
-use sound::lists::lists_sound;
+use soundness::lists_sound;
 use tables::MOST_DOORS;
 use tables::MOST_LOCATIONS;
 use tables::MOST_PEOPLE;

@@ -9,8 +9,8 @@ ghost use lib.ListN.{length};
 ghost use lib.Seq.{sets};
 ghost use Rattle.tables.specs.Tables.{mayBe};
 ghost use Rattle.tables.specs.Below.{allBelow, someBelow, leastBelow, isNothing, noPair};
-ghost use Rattle.tables.specs.Way.{unvisited, wayOut, wayOf, told, written};
-ghost use Rattle.tables.specs.Tests.{doorFits, exitFits, countsFit, inRange, lacksExit, firstNoExit};
+ghost use Rattle.tables.specs.Way.{unvisited, wayOut, wayOf, wayToldIn, wayWrittenIn};
+ghost use Rattle.tables.specs.Tests.{doorInRange, exitInRange, countsFit, planInRange, lacksExit, firstNoExit};
 ghost use Rattle.tables.specs.Tests.{strays, firstStray, joins, lacksDoor, firstNoDoor};
 ghost use Rattle.tables.specs.Tests.{lacksRight, firstNoRight, letsIn, shutOut, firstShutOut, lawfulB};
 use tables::Found;
@@ -43,7 +43,7 @@ pub fn may_be(right: &[bool], person: usize, location: usize) -> bool
 
 // Rule 3: whether a door is from a location to another one.
 fn door_fits<'a>(locations: usize, origin: &'a [u8], destination: &'a [u8], door: usize) -> bool
-    ensures { λ r. ⌜ r ≡ doorFits locations (now (origin .entry)) (now (destination .entry)) door ⌝ }
+    ensures { λ r. ⌜ r ≡ doorInRange locations (now (origin .entry)) (now (destination .entry)) door ⌝ }
 {
     let from = byte_at(origin, door);
     let to = byte_at(destination, door);
@@ -58,7 +58,7 @@ fn door_fits<'a>(locations: usize, origin: &'a [u8], destination: &'a [u8], door
 
 // Rule 3: whether every door fits.
 fn doors_fit<'a>(locations: usize, doors: usize, origin: &'a [u8], destination: &'a [u8]) -> bool
-    ensures { λ r. ⌜ r ≡ allBelow (doorFits locations (now (origin .entry)) (now (destination .entry))) doors ⌝ }
+    ensures { λ r. ⌜ r ≡ allBelow (doorInRange locations (now (origin .entry)) (now (destination .entry))) doors ⌝ }
 {
     let mut door = 0;
     while door < doors {
@@ -72,14 +72,14 @@ fn doors_fit<'a>(locations: usize, doors: usize, origin: &'a [u8], destination: 
 
 // Rule 3: whether an exit is a location.
 fn exit_fits(locations: usize, exit: &[u8], location: usize) -> bool
-    ensures { λ r. ⌜ r ≡ exitFits locations (now (exit .entry)) location ⌝ }
+    ensures { λ r. ⌜ r ≡ exitInRange locations (now (exit .entry)) location ⌝ }
 {
     (byte_at(exit, location) as usize) < locations
 }
 
 // Rule 3: whether every exit fits.
 fn exits_fit(locations: usize, exit: &[u8]) -> bool
-    ensures { λ r. ⌜ r ≡ allBelow (exitFits locations (now (exit .entry))) locations ⌝ }
+    ensures { λ r. ⌜ r ≡ allBelow (exitInRange locations (now (exit .entry))) locations ⌝ }
 {
     let mut location = 0;
     while location < locations {
@@ -120,7 +120,7 @@ pub fn in_range<'a>(
     destination: &'a [u8],
     exit: &'a [u8],
 ) -> bool
-    ensures { λ r. ⌜ r ≡ inRange people locations doors (now (origin .entry)) (now (destination .entry)) (now (exit .entry)) ⌝ }
+    ensures { λ r. ⌜ r ≡ planInRange people locations doors (now (origin .entry)) (now (destination .entry)) (now (exit .entry)) ⌝ }
 {
     if !counts_fit(people, locations, doors) {
         return false;
@@ -203,8 +203,8 @@ fn write_way<'a>(left: usize, exit: &'a [u8], from: usize, list: &'a mut [u8], a
 // The way out of a location, written into the front of the list that is lent for it, the rest of
 // the list unaltered. It is measured first: into a shorter list nothing is written.
 pub fn way_out<'a>(locations: usize, exit: &'a [u8], from: usize, list: &'a mut [u8]) -> WayTold
-    ensures told { λ r. ⌜ r ≡ told (wayOf locations (now (exit .entry)) from) (now (list .entry)) ⌝ }
-    ensures written { λ _. ⌜ now (list .exit) ≡ written (wayOf locations (now (exit .entry)) from) (now (list .entry)) ⌝ }
+    ensures wayToldIn { λ r. ⌜ r ≡ wayToldIn (wayOf locations (now (exit .entry)) from) (now (list .entry)) ⌝ }
+    ensures wayWrittenIn { λ _. ⌜ now (list .exit) ≡ wayWrittenIn (wayOf locations (now (exit .entry)) from) (now (list .entry)) ⌝ }
 {
     let left = unvisited(locations);
     let steps = way_length(left, exit, from);

@@ -5,7 +5,7 @@ ghost use mathlib.Core.List.{[], _∷_};
 ghost use Prim.Native.Nat.{_+_, _≤_, _<_, _^_};
 ghost use lib.ListN.{length, set};
 ghost use lib.Seq.{sets};
-ghost use Rattle.printed.specs.Text.{decimal, cell, rowText};
+ghost use Rattle.run_text.specs.Text.{decimal, cellText, rowOfNumbers};
 
 const COMMA: u8 = 44;
 
@@ -57,9 +57,9 @@ fn put_number(out: &mut [u8], at: usize, n: usize) -> usize
 // A number and the byte that follows it.
 fn put_cell(out: &mut [u8], at: usize, n: usize, mark: u8) -> usize
     requires { ⌜ (at < 2 ^ 61) × (n < 10 ^ 5) ⌝ }
-    ensures place { λ r. ⌜ r ≡ at + length (cell n mark) ⌝ }
+    ensures place { λ r. ⌜ r ≡ at + length (cellText n mark) ⌝ }
     ensures near { λ r. ⌜ r ≤ at + 6 ⌝ }
-    ensures out { λ _. ⌜ now (out .exit) ≡ sets (now (out .entry)) at (cell n mark) ⌝ }
+    ensures out { λ _. ⌜ now (out .exit) ≡ sets (now (out .entry)) at (cellText n mark) ⌝ }
 {
     let next = put_number(out, at, n);
     put(out, next, mark)
@@ -68,8 +68,8 @@ fn put_cell(out: &mut [u8], at: usize, n: usize, mark: u8) -> usize
 // The last number of a row, and the row's end.
 fn put_last(out: &mut [u8], at: usize, n: usize) -> usize
     requires { ⌜ (at < 2 ^ 61) × (n < 10 ^ 5) ⌝ }
-    ensures place { λ r. ⌜ r ≡ at + length (rowText n []) ⌝ }
-    ensures out { λ _. ⌜ now (out .exit) ≡ sets (now (out .entry)) at (rowText n []) ⌝ }
+    ensures place { λ r. ⌜ r ≡ at + length (rowOfNumbers n []) ⌝ }
+    ensures out { λ _. ⌜ now (out .exit) ≡ sets (now (out .entry)) at (rowOfNumbers n []) ⌝ }
 {
     let next = put_cell(out, at, n, CR);
     put(out, next, LF)
@@ -78,8 +78,8 @@ fn put_last(out: &mut [u8], at: usize, n: usize) -> usize
 // A row of what `where` prints.
 pub(crate) fn put_pair(out: &mut [u8], at: usize, person: usize, location: usize) -> usize
     requires { ⌜ (at < 2 ^ 60) × (person < 10 ^ 5) × (location < 10 ^ 5) ⌝ }
-    ensures place { λ r. ⌜ r ≡ at + length (rowText person (location ∷ [])) ⌝ }
-    ensures out { λ _. ⌜ now (out .exit) ≡ sets (now (out .entry)) at (rowText person (location ∷ [])) ⌝ }
+    ensures place { λ r. ⌜ r ≡ at + length (rowOfNumbers person (location ∷ [])) ⌝ }
+    ensures out { λ _. ⌜ now (out .exit) ≡ sets (now (out .entry)) at (rowOfNumbers person (location ∷ [])) ⌝ }
 {
     let next = put_cell(out, at, person, COMMA);
     put_last(out, next, location)
@@ -95,8 +95,8 @@ pub(crate) fn put_four(
     reason: usize,
 ) -> usize
     requires { ⌜ (at < 2 ^ 59) × (row < 10 ^ 5) × (answer < 10 ^ 5) × (phase < 10 ^ 5) × (reason < 10 ^ 5) ⌝ }
-    ensures place { λ r. ⌜ r ≡ at + length (rowText row (answer ∷ phase ∷ reason ∷ [])) ⌝ }
-    ensures out { λ _. ⌜ now (out .exit) ≡ sets (now (out .entry)) at (rowText row (answer ∷ phase ∷ reason ∷ [])) ⌝ }
+    ensures place { λ r. ⌜ r ≡ at + length (rowOfNumbers row (answer ∷ phase ∷ reason ∷ [])) ⌝ }
+    ensures out { λ _. ⌜ now (out .exit) ≡ sets (now (out .entry)) at (rowOfNumbers row (answer ∷ phase ∷ reason ∷ [])) ⌝ }
 {
     let behind_row = put_cell(out, at, row, COMMA);
     let behind_answer = put_cell(out, behind_row, answer, COMMA);

@@ -6,13 +6,13 @@ ghost use lib.ListN.{length};
 ghost use lib.Seq.{sets};
 ghost use Rattle.record.specs.SoundTest.{soundB};
 ghost use Rattle.record.specs.Run.{toldOf, answerTold, phaseTold, reasonTold};
-ghost use Rattle.says.specs.Site.{limit};
-ghost use Rattle.printed.specs.Steps.{stepsFrom, rowsIn, mostSteps};
-ghost use Rattle.printed.specs.Printed.{servedOf};
+ghost use Rattle.grammar.specs.Sizes.{limit};
+ghost use Rattle.run_text.specs.Steps.{stepsFrom, rowsIn, mostSteps};
+ghost use Rattle.run_text.specs.Printed.{servedOf};
 use crate::steps::MOST_STEPS;
 use crate::steps::decode;
-use printed::serve::Served;
 use record::record::Record;
+use run_text::serve::Served;
 
 // Runs the steps of the rows from a position on.
 pub(crate) fn serve<'a>(

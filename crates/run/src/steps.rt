@@ -3,15 +3,15 @@ ghost use mathlib.Core.Path.{_≡_};
 ghost use Prim.Native.Nat.{_≤_};
 ghost use lib.ListN.{length, drop};
 ghost use lib.Seq.{sets};
-ghost use Rattle.says.specs.Site.{limit};
-ghost use Rattle.printed.specs.Steps.{stepWords, placeAmong, kindAt, personAt, lineAt, headerAt, headingOf, stepsFrom, decodedOf, mostSteps};
+ghost use Rattle.grammar.specs.Sizes.{limit};
+ghost use Rattle.run_text.specs.Steps.{stepWords, placeAmong, kindAt, personAt, stepsLineAt, stepsHeaderAt, headingOf, stepsFrom, decodedOf, mostSteps};
 use grammar::cut::Cell;
 use grammar::cut::Cells;
 use grammar::cut::RowCut;
 use grammar::say::Number;
-use printed::steps::Decoded;
-use printed::steps::Heading;
-use printed::steps::Line;
+use run_text::steps::Decoded;
+use run_text::steps::Heading;
+use run_text::steps::StepsLine;
 use sheet::LIMIT;
 use sheet::cut::cut_row;
 use sheet::say::is_word;
@@ -99,31 +99,31 @@ fn person_of(s: &[u8], kind: u8, cell: Cell) -> Number
 }
 
 // What a row with these cells says.
-fn line_of(s: &[u8], cells: Cells) -> Line
-    ensures { λ r. ⌜ r ≡ lineAt (now (s .entry)) cells ⌝ }
+fn line_of(s: &[u8], cells: Cells) -> StepsLine
+    ensures { λ r. ⌜ r ≡ stepsLineAt (now (s .entry)) cells ⌝ }
 {
     if cells.count != 3 {
-        return Line::Bad;
+        return StepsLine::Bad;
     }
     let first = cells.first;
     let second = cells.second;
     let third = cells.third;
     let kind = kind_of(s, first);
     if kind == UNKNOWN {
-        return Line::Bad;
+        return StepsLine::Bad;
     }
     let Number::Is(door) = number_of(s, second) else {
-        return Line::Bad;
+        return StepsLine::Bad;
     };
     let Number::Is(person) = person_of(s, kind, third) else {
-        return Line::Bad;
+        return StepsLine::Bad;
     };
-    Line::Step(kind, door as u16, person as u16)
+    StepsLine::Step(kind, door as u16, person as u16)
 }
 
 // Whether a row with these cells is the header.
 fn is_header(s: &[u8], cells: Cells) -> bool
-    ensures { λ r. ⌜ r ≡ headerAt (now (s .entry)) cells ⌝ }
+    ensures { λ r. ⌜ r ≡ stepsHeaderAt (now (s .entry)) cells ⌝ }
 {
     says_words(s, cells, b"step", b"door", b"person")
 }
@@ -168,7 +168,7 @@ pub(crate) fn decode<'a>(
     loop {
         match cut_row(s, at) {
             RowCut::Cut(cells, next) => {
-                let Line::Step(kind, door, person) = line_of(s, cells) else {
+                let StepsLine::Step(kind, door, person) = line_of(s, cells) else {
                     return Decoded {
                         count,
                         whole: false,

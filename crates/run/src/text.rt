@@ -8,19 +8,19 @@ ghost use lib.Seq.{sets};
 ghost use Rattle.tables.specs.Tables.{mostPeople};
 ghost use Rattle.record.specs.SoundTest.{soundB};
 ghost use Rattle.record.specs.Run.{lastOf};
-ghost use Rattle.says.specs.Site.{limit};
-ghost use Rattle.printed.specs.Steps.{headingOf, stepsFrom, rowsIn, mostSteps};
-ghost use Rattle.printed.specs.Printed.{answerRows, runText, aloneText, ranText, stepsText, panelText};
-ghost use Rattle.printed.specs.Printed.{placesText, recordText, lastRecord, whereText, printedOf, written};
+ghost use Rattle.grammar.specs.Sizes.{limit};
+ghost use Rattle.run_text.specs.Steps.{headingOf, stepsFrom, rowsIn, mostSteps};
+ghost use Rattle.run_text.specs.Printed.{answerRows, runText, aloneText, ranText, stepsText, panelText};
+ghost use Rattle.run_text.specs.Printed.{placesText, recordText, lastRecord, whereText, printedOf, written};
 use crate::print::put_bytes;
 use crate::print::put_four;
 use crate::print::put_pair;
 use crate::serve::serve;
 use crate::steps::MOST_STEPS;
 use crate::steps::heading_of;
-use printed::steps::Heading;
-use printed::text::Printed;
 use record::record::Record;
+use run_text::steps::Heading;
+use run_text::text::Printed;
 use site::read::read_site;
 
 // The numbers of a long sheet and of a row of bad form or a wrong header.

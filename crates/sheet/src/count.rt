@@ -2,10 +2,10 @@
 ghost use mathlib.Core.Path.{_≡_};
 ghost use Rattle.grammar.specs.Rows.{countRows};
 use crate::cut::cut_row;
-use grammar::count::Counted;
+use grammar::count::RowsCounted;
 use grammar::cut::RowCut;
 
-pub fn count_rows(s: &[u8]) -> Counted
+pub fn count_rows(s: &[u8]) -> RowsCounted
     ensures { λ r. ⌜ r ≡ countRows (now (s .entry)) ⌝ }
 {
     let mut rows: usize = 0;
@@ -17,10 +17,10 @@ pub fn count_rows(s: &[u8]) -> Counted
                 at = next;
             }
             RowCut::NoRow => {
-                return Counted::All(rows);
+                return RowsCounted::All(rows);
             }
             RowCut::Broken(byte) => {
-                return Counted::UpTo(rows, byte);
+                return RowsCounted::UpTo(rows, byte);
             }
         }
     }

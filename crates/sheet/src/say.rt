@@ -2,7 +2,8 @@
 ghost use mathlib.Core.Path.{_≡_};
 ghost use Prim.Native.Nat.{_≤_};
 ghost use lib.ListN.{length};
-ghost use Rattle.grammar.specs.Say.{width, contentAt, sameBytes, isWord, needlessZero, digitsFrom, numberOf, numberAt, saysWords};
+ghost use Rattle.grammar.specs.Say.{contentAt, sameBytes, isWord, needlessZero, digitsFrom, numberIn, numberAt, saysWords};
+ghost use Rattle.grammar.specs.Sizes.{width};
 use grammar::cut::Cell;
 use grammar::cut::Cells;
 use grammar::say::Number;
@@ -77,7 +78,7 @@ fn digits(c: &[u8]) -> Number
 
 // The number that some bytes are.
 fn number_in(c: &[u8]) -> Number
-    ensures { λ r. ⌜ r ≡ numberOf (now (c .entry)) ⌝ }
+    ensures { λ r. ⌜ r ≡ numberIn (now (c .entry)) ⌝ }
 {
     if c.len() == 0 {
         return Number::None;

@@ -6,21 +6,21 @@ ghost use Prim.Native.Nat.{ℕ};
 ghost use mathlib.Core.Bool.{Bool};
 ghost use mathlib.Core.List.{List};
 ghost use mathlib.Core.Path.{_≡_};
-ghost use Rattle.says.specs.Line.{wordOf, lineAt, headerAt};
-ghost use Rattle.says.specs.Draft.{Bounded, siteFits, doorFits, exitFits, rightFits};
-ghost use Rattle.says.specs.Draft.{takeLine};
-ghost use Rattle.says.specs.Lent.{counted, draftOf, after};
+ghost use Rattle.site_sheet.specs.Line.{wordOf, siteLineAt, siteHeaderAt};
+ghost use Rattle.site_sheet.specs.Draft.{Bounded, siteRowFits, doorRowFits, exitRowFits, rightRowFits};
+ghost use Rattle.site_sheet.specs.Draft.{takeLine};
+ghost use Rattle.site_sheet.specs.Lent.{rowTaken, draftWith, takenWith};
 use grammar::cut::Cell;
 use grammar::cut::Cells;
 use grammar::say::Number;
-use says::Counted;
-use says::Counts;
-use says::Fault;
-use says::Line;
-use says::Word;
 use sheet::say::is_word;
 use sheet::say::number_of;
 use sheet::say::says_words;
+use site_sheet::Counts;
+use site_sheet::Fault;
+use site_sheet::RowTaken;
+use site_sheet::SiteLine;
+use site_sheet::Word;
 use tables::MOST_DOORS;
 use tables::MOST_LOCATIONS;
 use tables::MOST_PEOPLE;
@@ -48,40 +48,40 @@ fn word_of(s: &[u8], cell: Cell) -> Word
 }
 
 // What a row with these cells says.
-fn line_of(s: &[u8], cells: Cells) -> Line
-    ensures { λ r. ⌜ r ≡ lineAt (now (s .entry)) cells ⌝ }
+fn line_of(s: &[u8], cells: Cells) -> SiteLine
+    ensures { λ r. ⌜ r ≡ siteLineAt (now (s .entry)) cells ⌝ }
 {
     if cells.count != 3 {
-        return Line::Bad;
+        return SiteLine::Bad;
     }
     let first = cells.first;
     let second = cells.second;
     let third = cells.third;
     let Number::Is(a) = number_of(s, second) else {
-        return Line::Bad;
+        return SiteLine::Bad;
     };
     let Number::Is(b) = number_of(s, third) else {
-        return Line::Bad;
+        return SiteLine::Bad;
     };
     match word_of(s, first) {
-        Word::Site => Line::Site(a, b),
-        Word::Door => Line::Door(a, b),
-        Word::Exit => Line::Exit(a, b),
-        Word::Right => Line::Right(a, b),
-        Word::Unknown => Line::Bad,
+        Word::Site => SiteLine::Site(a, b),
+        Word::Door => SiteLine::Door(a, b),
+        Word::Exit => SiteLine::Exit(a, b),
+        Word::Right => SiteLine::Right(a, b),
+        Word::Unknown => SiteLine::Bad,
     }
 }
 
 // Whether a row with these cells is the header.
 fn is_header(s: &[u8], cells: Cells) -> bool
-    ensures { λ r. ⌜ r ≡ headerAt (now (s .entry)) cells ⌝ }
+    ensures { λ r. ⌜ r ≡ siteHeaderAt (now (s .entry)) cells ⌝ }
 {
     says_words(s, cells, b"kind", b"a", b"b")
 }
 
 // Whether so many people and locations make a site.
 fn site_fits(people: usize, locations: usize) -> bool
-    ensures { λ r. ⌜ r ≡ siteFits people locations ⌝ }
+    ensures { λ r. ⌜ r ≡ siteRowFits people locations ⌝ }
 {
     if people < 1 {
         return false;
@@ -97,7 +97,7 @@ fn site_fits(people: usize, locations: usize) -> bool
 
 // Whether a door may go from one location to another, and there is room for it.
 fn door_fits(locations: usize, doors: usize, from: usize, to: usize) -> bool
-    ensures { λ r. ⌜ r ≡ doorFits locations doors from to ⌝ }
+    ensures { λ r. ⌜ r ≡ doorRowFits locations doors from to ⌝ }
 {
     if locations <= from {
         return false;
@@ -113,7 +113,7 @@ fn door_fits(locations: usize, doors: usize, from: usize, to: usize) -> bool
 
 // Whether a location may be signed to another.
 fn exit_fits(locations: usize, from: usize, to: usize) -> bool
-    ensures { λ r. ⌜ r ≡ exitFits locations from to ⌝ }
+    ensures { λ r. ⌜ r ≡ exitRowFits locations from to ⌝ }
 {
     if from < 1 {
         return false;
@@ -126,7 +126,7 @@ fn exit_fits(locations: usize, from: usize, to: usize) -> bool
 
 // Whether a person may be given a right to a location.
 fn right_fits(people: usize, locations: usize, person: usize, location: usize) -> bool
-    ensures { λ r. ⌜ r ≡ rightFits people locations person location ⌝ }
+    ensures { λ r. ⌜ r ≡ rightRowFits people locations person location ⌝ }
 {
     if people <= person {
         return false;
@@ -138,15 +138,15 @@ fn right_fits(people: usize, locations: usize, person: usize, location: usize) -
 }
 
 // These counts after a row with which this is wrong, or nothing.
-fn told(counts: Counts, fault: Fault) -> Counted
-    ensures { λ r. ⌜ r ≡ counted counts fault ⌝ }
+fn told(counts: Counts, fault: Fault) -> RowTaken
+    ensures { λ r. ⌜ r ≡ rowTaken counts fault ⌝ }
 {
-    Counted { counts, fault }
+    RowTaken { counts, fault }
 }
 
 // `site,P,L`
-fn take_site(mut counts: Counts, people: usize, locations: usize) -> Counted
-    ensures { λ r. ⌜ ((origin destination exit : List ℕ) (given right : List Bool) → after r origin destination exit given right ≡ takeLine (draftOf counts origin destination exit given right) (Line.Site people locations)) ⌝ }
+fn take_site(mut counts: Counts, people: usize, locations: usize) -> RowTaken
+    ensures { λ r. ⌜ ((origin destination exit : List ℕ) (given right : List Bool) → takenWith r origin destination exit given right ≡ takeLine (draftWith counts origin destination exit given right) (SiteLine.Site people locations)) ⌝ }
 {
     if !site_fits(people, locations) {
         return told(counts, Fault::Range);
@@ -166,9 +166,9 @@ fn take_door<'a>(
     destination: &'a mut [u8; MOST_DOORS],
     from: usize,
     to: usize,
-) -> Counted
+) -> RowTaken
     requires { ⌜ Bounded counts ⌝ }
-    ensures { λ r. ⌜ ((exit : List ℕ) (given right : List Bool) → after r (now (origin .exit)) (now (destination .exit)) exit given right ≡ takeLine (draftOf counts (now (origin .entry)) (now (destination .entry)) exit given right) (Line.Door from to)) ⌝ }
+    ensures { λ r. ⌜ ((exit : List ℕ) (given right : List Bool) → takenWith r (now (origin .exit)) (now (destination .exit)) exit given right ≡ takeLine (draftWith counts (now (origin .entry)) (now (destination .entry)) exit given right) (SiteLine.Door from to)) ⌝ }
 {
     if counts.locations == 0 {
         return told(counts, Fault::NoSite);
@@ -190,9 +190,9 @@ fn take_exit<'a>(
     given: &'a mut [bool; MOST_LOCATIONS],
     from: usize,
     to: usize,
-) -> Counted
+) -> RowTaken
     requires { ⌜ Bounded counts ⌝ }
-    ensures { λ r. ⌜ ((origin destination : List ℕ) (right : List Bool) → after r origin destination (now (exit .exit)) (now (given .exit)) right ≡ takeLine (draftOf counts origin destination (now (exit .entry)) (now (given .entry)) right) (Line.Exit from to)) ⌝ }
+    ensures { λ r. ⌜ ((origin destination : List ℕ) (right : List Bool) → takenWith r origin destination (now (exit .exit)) (now (given .exit)) right ≡ takeLine (draftWith counts origin destination (now (exit .entry)) (now (given .entry)) right) (SiteLine.Exit from to)) ⌝ }
 {
     if counts.locations == 0 {
         return told(counts, Fault::NoSite);
@@ -214,9 +214,9 @@ fn take_right(
     right: &mut [bool; MOST_RIGHTS],
     person: usize,
     location: usize,
-) -> Counted
+) -> RowTaken
     requires { ⌜ Bounded counts ⌝ }
-    ensures { λ r. ⌜ ((origin destination exit : List ℕ) (given : List Bool) → after r origin destination exit given (now (right .exit)) ≡ takeLine (draftOf counts origin destination exit given (now (right .entry))) (Line.Right person location)) ⌝ }
+    ensures { λ r. ⌜ ((origin destination exit : List ℕ) (given : List Bool) → takenWith r origin destination exit given (now (right .exit)) ≡ takeLine (draftWith counts origin destination exit given (now (right .entry))) (SiteLine.Right person location)) ⌝ }
 {
     if counts.locations == 0 {
         return told(counts, Fault::NoSite);
@@ -235,21 +235,21 @@ fn take_right(
 // A row goes into the tables that are lent, which stay as they are where something is wrong with it.
 fn take<'a>(
     counts: Counts,
-    line: Line,
+    line: SiteLine,
     origin: &'a mut [u8; MOST_DOORS],
     destination: &'a mut [u8; MOST_DOORS],
     exit: &'a mut [u8; MOST_LOCATIONS],
     given: &'a mut [bool; MOST_LOCATIONS],
     right: &'a mut [bool; MOST_RIGHTS],
-) -> Counted
+) -> RowTaken
     requires { ⌜ Bounded counts ⌝ }
-    ensures { λ r. ⌜ after r (now (origin .exit)) (now (destination .exit)) (now (exit .exit)) (now (given .exit)) (now (right .exit)) ≡ takeLine (draftOf counts (now (origin .entry)) (now (destination .entry)) (now (exit .entry)) (now (given .entry)) (now (right .entry))) line ⌝ }
+    ensures { λ r. ⌜ takenWith r (now (origin .exit)) (now (destination .exit)) (now (exit .exit)) (now (given .exit)) (now (right .exit)) ≡ takeLine (draftWith counts (now (origin .entry)) (now (destination .entry)) (now (exit .entry)) (now (given .entry)) (now (right .entry))) line ⌝ }
 {
     match line {
-        Line::Site(people, locations) => take_site(counts, people, locations),
-        Line::Door(from, to) => take_door(counts, origin, destination, from, to),
-        Line::Exit(from, to) => take_exit(counts, exit, given, from, to),
-        Line::Right(person, location) => take_right(counts, right, person, location),
-        Line::Bad => told(counts, Fault::Form),
+        SiteLine::Site(people, locations) => take_site(counts, people, locations),
+        SiteLine::Door(from, to) => take_door(counts, origin, destination, from, to),
+        SiteLine::Exit(from, to) => take_exit(counts, exit, given, from, to),
+        SiteLine::Right(person, location) => take_right(counts, right, person, location),
+        SiteLine::Bad => told(counts, Fault::Form),
     }
 }

@@ -1,23 +1,23 @@
 // The whole sheet: its rows go into the tables one by one, and then the tables are judged by the rules of the whole sheet.
 ghost use mathlib.Core.Path.{_≡_};
 ghost use Rattle.grammar.specs.Rows.{rowsFrom};
-ghost use Rattle.says.specs.Draft.{blankDraft};
-ghost use Rattle.says.specs.Lent.{noCounts, draftOf, stop, stoppedAt};
-ghost use Rattle.says.specs.Site.{soundFault, verdictOf, linesIn, readLines, acceptedSite, refusedSite};
-ghost use Rattle.says.specs.Site.{judgedBy10, judgedFrom8, judged, settled, siteOf};
+ghost use Rattle.site_sheet.specs.Draft.{blankDraft};
+ghost use Rattle.site_sheet.specs.Lent.{noCounts, draftWith, stop, stoppedAt};
+ghost use Rattle.site_sheet.specs.Site.{soundFault, verdictOf, linesIn, readLines, acceptedSite, refusedSite};
+ghost use Rattle.site_sheet.specs.Site.{judgedBy10, judgedFrom8, judged, settled, siteOf};
 use crate::is_header;
 use crate::line_of;
 use crate::take;
 use grammar::cut::RowCut;
 use record::record::Record;
-use says::Counts;
-use says::Draft;
-use says::Fault;
-use says::Reading;
-use says::SiteRead;
-use says::Stop;
 use sheet::LIMIT;
 use sheet::cut::cut_row;
+use site_sheet::Counts;
+use site_sheet::Draft;
+use site_sheet::Fault;
+use site_sheet::Reading;
+use site_sheet::SiteRead;
+use site_sheet::Stop;
 use tables::Found;
 use tables::MOST_DOORS;
 use tables::MOST_LOCATIONS;
@@ -68,7 +68,7 @@ fn take_rows<'s, 'a>(
     given: &'a mut [bool; MOST_LOCATIONS],
     right: &'a mut [bool; MOST_RIGHTS],
 ) -> Stop
-    ensures { λ r. ⌜ stoppedAt r (now (origin .exit)) (now (destination .exit)) (now (exit .exit)) (now (given .exit)) (now (right .exit)) ≡ readLines (draftOf noCounts (now (origin .entry)) (now (destination .entry)) (now (exit .entry)) (now (given .entry)) (now (right .entry))) 1 (linesIn (now (s .entry)) (rowsFrom (now (s .entry)) from)) ⌝ }
+    ensures { λ r. ⌜ stoppedAt r (now (origin .exit)) (now (destination .exit)) (now (exit .exit)) (now (given .exit)) (now (right .exit)) ≡ readLines (draftWith noCounts (now (origin .entry)) (now (destination .entry)) (now (exit .entry)) (now (given .entry)) (now (right .entry))) 1 (linesIn (now (s .entry)) (rowsFrom (now (s .entry)) from)) ⌝ }
 {
     let mut counts = Counts {
         people: 0,

@@ -15,8 +15,8 @@ use lib.ListN.{getD, length}
 use Rattle.tables.specs.Tables.{mayBe, mostLocations}
 use Rattle.tables.specs.Below.{someBelow, isNothing, Tells, Answers, AnswersPair}
 use Rattle.tables.specs.Way.{LeadsOut, wayOut, unvisited}
-use Rattle.tables.specs.Rules.{InRange, ExitsGiven, DoorFrom, FirstLocation, Lawful}
-use Rattle.tables.specs.Tests.{doorFits, exitFits, countsFit, inRange, lacksExit, firstNoExit, strays, firstStray}
+use Rattle.tables.specs.Rules.{PlanInRange, ExitsGiven, DoorFrom, FirstLocation, Lawful}
+use Rattle.tables.specs.Tests.{doorInRange, exitInRange, countsFit, planInRange, lacksExit, firstNoExit, strays, firstStray}
 use Rattle.tables.specs.Tests.{joins, lacksDoor, firstNoDoor, lacksRight, firstNoRight, letsIn, shutOut, firstShutOut, lawfulB}
 use Rattle.tables.proofs.Laws.{some-yes, some-back, tell-lt, tell-le, tell-eq, tell-itself, tell-not, tell-and, tell-and-then, tell-then}
 use Rattle.tables.proofs.Laws.{tell-not-not, tell-all, tell-as, answers, tell-nothing, answers-pair, tell-no-pair}
@@ -25,14 +25,14 @@ use Rattle.tables.proofs.Ways.{way-met, way-found, way-short}
 -- ---- rule 3
 
 door-fits-tells : (locations : ℕ) (origin destination : List ℕ) (d : ℕ)
-    → Tells (doorFits locations origin destination d)
+    → Tells (doorInRange locations origin destination d)
     ((getD origin d 0 < locations) × ((getD destination d 0 < locations) × (getD origin d 0 ≡ getD destination d 0 → ⊥)))
-unfolding doorFits
+unfolding doorInRange
 door-fits-tells locations origin destination d = tell-and (tell-lt _ _) (tell-and (tell-lt _ _) (tell-not (tell-eq _ _)))
 
 pub in-range-tells : (people locations doors : ℕ) (origin destination exit : List ℕ)
-    → Tells (inRange people locations doors origin destination exit) (InRange people locations doors origin destination exit)
-unfolding inRange countsFit exitFits
+    → Tells (planInRange people locations doors origin destination exit) (PlanInRange people locations doors origin destination exit)
+unfolding planInRange countsFit exitInRange
 in-range-tells people locations doors origin destination exit =
     tell-as
     (λ t. record {
@@ -51,8 +51,8 @@ in-range-tells people locations doors origin destination exit =
       ((λ d h. (r .origins d h, (r .destinations d h, r .no-loop d h))), r .exits),
     ))
     (tell-and (tell-and (tell-le _ _) (tell-and (tell-le _ _) (tell-and (tell-le _ _) (tell-and (tell-le _ _) (tell-le _ _)))))
-    (tell-and (tell-all (doorFits locations origin destination) _ doors (door-fits-tells locations origin destination))
-    (tell-all (exitFits locations exit) (λ l. getD exit l 0 < locations) locations (λ l. tell-lt _ _))))
+    (tell-and (tell-all (doorInRange locations origin destination) _ doors (door-fits-tells locations origin destination))
+    (tell-all (exitInRange locations exit) (λ l. getD exit l 0 < locations) locations (λ l. tell-lt _ _))))
 
 -- ---- rule 6
 

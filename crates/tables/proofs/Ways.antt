@@ -17,7 +17,7 @@ use lib.ListN.{length, getD, set, drop}
 use lib.Seq.{sets, sets-eq}
 use lib.Dec.{leb}
 use Rattle.tables.proofs.Laws.{clash, denied}
-use Rattle.tables.specs.Way.{Way, outside, onward, unlessOutside, wayOut, ifRoom, told, written}
+use Rattle.tables.specs.Way.{Way, outside, onward, unlessOutside, wayOut, ifRoom, wayToldIn, wayWrittenIn}
 use Rattle.tables.specs.declared.WayTold.the-variants.{Length, TooShort}
 
 -- ---- one step
@@ -189,20 +189,20 @@ write-on list at left exit l m after h k e q = rw (way-next left exit l m h k e)
 
 -- what is told and left of the list, where it has room for the way and where it hasn't
 module _ (way list : List ℕ) where
-  pub short-told : length list < length way → TooShort ≡ told way list
-  unfolding told ifRoom
+  pub short-told : length list < length way → TooShort ≡ wayToldIn way list
+  unfolding wayToldIn ifRoom
   short-told h = rw (lt-leb (length way) (length list) h)
 
-  pub short-kept : length list < length way → list ≡ written way list
-  unfolding written ifRoom
+  pub short-kept : length list < length way → list ≡ wayWrittenIn way list
+  unfolding wayWrittenIn ifRoom
   short-kept h = rw (lt-leb (length way) (length list) h)
 
-  pub room-told : length way ≤ length list → Length (length way) ≡ told way list
-  unfolding told ifRoom
+  pub room-told : length way ≤ length list → Length (length way) ≡ wayToldIn way list
+  unfolding wayToldIn ifRoom
   room-told h = rw (le-leb (length way) (length list) h)
 
-  pub room-written : length way ≤ length list → sets list 0 way ≡ written way list
-  unfolding written ifRoom
+  pub room-written : length way ≤ length list → sets list 0 way ≡ wayWrittenIn way list
+  unfolding wayWrittenIn ifRoom
   room-written h =
       let room : 0 + length way ≤ length list = omega arith in
       let none : 0 + length way ≡ length way = omega arith in

@@ -8,7 +8,7 @@ use Rattle.tables.specs.Tables.{mayBe, mostPeople, mostLocations, mostDo
 use Rattle.tables.specs.Way.{LeadsOut}
 
 -- 3: "a number outside the ranges above, a door from a location to itself, a 65th door"
-pub record InRange (people locations doors : ℕ) (origin destination exit : List ℕ) : Type 0 where
+pub record PlanInRange (people locations doors : ℕ) (origin destination exit : List ℕ) : Type 0 where
   -- "People number 1 to 64, locations 2 to 32, doors 0 to 64."
   pub people-from : 1 ≤ people
   pub people-to : people ≤ mostPeople
@@ -41,7 +41,7 @@ pub record FirstLocation (doors : ℕ) (origin destination : List ℕ) (right : 
 
 -- Rules 3 and 7 to 10, which a record's tables obey (in a record every location has an exit, so that 6 asks nothing).
 pub record Lawful (people locations doors : ℕ) (origin destination exit : List ℕ) (right : List Bool) : Type 0 where
-  pub in-range : InRange people locations doors origin destination exit
+  pub in-range : PlanInRange people locations doors origin destination exit
   -- 7: "following exits always comes to 0"
   pub leads-out : (l : ℕ) → l < locations → LeadsOut exit l
   -- 8: "each exit l to m has a door from l to m"

@@ -12,23 +12,23 @@ use Rattle.tables.specs.declared.Found.{Found}
 use Rattle.tables.specs.declared.RightFound.{RightFound}
 
 -- 3: a door is from a location to another one
-unfoldable pub doorFits : ℕ → List ℕ → List ℕ → ℕ → Bool
-doorFits locations origin destination d =
+unfoldable pub doorInRange : ℕ → List ℕ → List ℕ → ℕ → Bool
+doorInRange locations origin destination d =
     andAlso (ltb (getD origin d 0) locations) (andAlso (ltb (getD destination d 0) locations) (not (eqb (getD origin d 0) (getD destination d 0))))
 
 -- 3: an exit is a location
-unfoldable pub exitFits : ℕ → List ℕ → ℕ → Bool
-exitFits locations exit l = ltb (getD exit l 0) locations
+unfoldable pub exitInRange : ℕ → List ℕ → ℕ → Bool
+exitInRange locations exit l = ltb (getD exit l 0) locations
 
 -- 3: the counts are in their ranges
 unfoldable pub countsFit : ℕ → ℕ → ℕ → Bool
 countsFit people locations doors =
     andAlso (leb 1 people) (andAlso (leb people mostPeople) (andAlso (leb 2 locations) (andAlso (leb locations mostLocations) (leb doors mostDoors))))
 
-unfoldable pub inRange : ℕ → ℕ → ℕ → List ℕ → List ℕ → List ℕ → Bool
-inRange people locations doors origin destination exit =
+unfoldable pub planInRange : ℕ → ℕ → ℕ → List ℕ → List ℕ → List ℕ → Bool
+planInRange people locations doors origin destination exit =
     andAlso (countsFit people locations doors)
-    (andAlso (allBelow (doorFits locations origin destination) doors) (allBelow (exitFits locations exit) locations))
+    (andAlso (allBelow (doorInRange locations origin destination) doors) (allBelow (exitInRange locations exit) locations))
 
 -- 6: "a location has no exit"
 unfoldable pub lacksExit : List Bool → ℕ → Bool
@@ -77,7 +77,7 @@ firstShutOut people doors origin destination right = leastBelow (shutOut doors o
 -- "its tables pass 3 and 6 to 10": the whole test of a record's tables, each finished before the next
 unfoldable pub lawfulB : ℕ → ℕ → ℕ → List ℕ → List ℕ → List ℕ → List Bool → Bool
 lawfulB people locations doors origin destination exit right =
-    andAlso (inRange people locations doors origin destination exit)
+    andAlso (planInRange people locations doors origin destination exit)
     (andAlso (isNothing (firstStray locations exit))
     (andAlso (isNothing (firstNoDoor locations doors origin destination exit))
     (andAlso (noPair (firstNoRight people locations exit right)) (isNothing (firstShutOut people doors origin destination right)))))

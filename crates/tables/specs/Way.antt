@@ -48,8 +48,8 @@ unfoldable pub ifRoom : {A : Type 0} → Bool → A → A → A
 ifRoom true there short = there
 ifRoom false there short = short
 
-unfoldable pub told : List ℕ → List ℕ → WayTold
-told way list = ifRoom (leb (length way) (length list)) (Length (length way)) TooShort
+unfoldable pub wayToldIn : List ℕ → List ℕ → WayTold
+wayToldIn way list = ifRoom (leb (length way) (length list)) (Length (length way)) TooShort
 
-unfoldable pub written : List ℕ → List ℕ → List ℕ
-written way list = ifRoom (leb (length way) (length list)) (way ++ drop (length way) list) list
+unfoldable pub wayWrittenIn : List ℕ → List ℕ → List ℕ
+wayWrittenIn way list = ifRoom (leb (length way) (length list)) (way ++ drop (length way) list) list

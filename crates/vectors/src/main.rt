@@ -3,14 +3,14 @@
 // `case NNN` and the two texts. Behind each text of a steps sheet of at most 1,024 bytes stands what a list gives that is one
 // byte too short for it (13, and no byte of the list is altered) and one that is just long enough (0, and the text).
 // tests/make-vectors makes the sheets, and from the papers' reference what is expected.
-use files::ROOM;
-use files::number_asked;
-use files::read_sheet;
 use libc::STDOUT_FILENO;
-use printed::text::Printed;
 use run::text::MOST_PANEL_TEXT;
 use run::text::panel_text;
 use run::text::where_text;
+use run_text::text::Printed;
+use sheet_files::ROOM;
+use sheet_files::number_asked;
+use sheet_files::read_sheet;
 
 // The longest steps sheet whose texts also go into lists of their own length, and room for those.
 const MOST_SHORT: usize = 1024;

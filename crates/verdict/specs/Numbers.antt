@@ -4,18 +4,18 @@ use Rattle.verdict.specs.declared.Verdict.{Verdict}
 use Rattle.verdict.specs.declared.Verdict.the-variants.{Accepted, TooLong, BadRow, OutOfRange, Twice, NoSite, NoExit, Stray, NoDoor, NoRight, ShutOut}
 
 -- the table "Numbers given back", columns "No." and "Place told"
-abbrev pub numberOf : Verdict → ℕ
-numberOf Accepted = 0
-numberOf TooLong = 1
-numberOf (BadRow n) = 2
-numberOf (OutOfRange n) = 3
-numberOf (Twice n) = 4
-numberOf NoSite = 5
-numberOf (NoExit l) = 6
-numberOf (Stray l) = 7
-numberOf (NoDoor l) = 8
-numberOf (NoRight p l) = 9
-numberOf (ShutOut p) = 10
+abbrev pub verdictNo : Verdict → ℕ
+verdictNo Accepted = 0
+verdictNo TooLong = 1
+verdictNo (BadRow n) = 2
+verdictNo (OutOfRange n) = 3
+verdictNo (Twice n) = 4
+verdictNo NoSite = 5
+verdictNo (NoExit l) = 6
+verdictNo (Stray l) = 7
+verdictNo (NoDoor l) = 8
+verdictNo (NoRight p l) = 9
+verdictNo (ShutOut p) = 10
 
 abbrev pub firstPlace : Verdict → ℕ
 firstPlace Accepted = 0

@@ -1,7 +1,7 @@
 // What is said of a site sheet: the verdict, with its number and the places that are told with it. The
 // definitions are in specs/, in the words of paper 01, "Numbers given back".
 ghost use mathlib.Core.Path.{_≡_};
-ghost use Rattle.verdict.specs.Numbers.{numberOf, firstPlace, secondPlace};
+ghost use Rattle.verdict.specs.Numbers.{verdictNo, firstPlace, secondPlace};
 
 // What is said of a sheet, with the place that is told.
 pub enum Verdict {
@@ -21,7 +21,7 @@ pub enum Verdict {
 impl Verdict {
     // The paper's number.
     pub fn number(self) -> u8
-        ensures { λ r. ⌜ r ≡ numberOf self ⌝ }
+        ensures { λ r. ⌜ r ≡ verdictNo self ⌝ }
     {
         match self {
             Verdict::Accepted => 0,

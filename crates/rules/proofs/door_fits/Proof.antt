@@ -2,7 +2,7 @@
 use borrow.Author.Needs.{needs}
 use borrow.Author.Tests.{lt-ltb, le-ltb}
 use Rattle.tables.specs.Tables.{andAlso}
-use Rattle.tables.specs.Tests.{doorFits}
+use Rattle.tables.specs.Tests.{doorInRange}
 use Rattle.rules.proofs.door_fits.Statement.{statement}
 use Rattle.rules.proofs.door_fits.Tie as tie
 
@@ -16,18 +16,18 @@ cast-if1 : tie.Need-cast-if1
 cast-if1 c = search needs
 
 returns : tie.Need-returns
-unfolding doorFits andAlso
+unfolding doorInRange andAlso
 returns c = simp (← (c .before .before .byte-at .ensures), le-ltb _ _ (c .if1 .taken))
 
 cast-if2 : tie.Need-cast-if2
 cast-if2 c = search needs
 
 returns-2 : tie.Need-returns-2
-unfolding doorFits andAlso
+unfolding doorInRange andAlso
 returns-2 c = simp (← (c .before .before .before .byte-at .ensures), ← (c .before .before .byte-at2 .ensures), lt-ltb _ _ (c .before .if1 .left), le-ltb _ _ (c .if2 .taken))
 
 returns-3 : tie.Need-returns-3
-unfolding doorFits andAlso
+unfolding doorInRange andAlso
 returns-3 c = simp (← (c .before .before .before .byte-at .ensures), ← (c .before .before .byte-at2 .ensures), lt-ltb _ _ (c .before .if1 .left), lt-ltb _ _ (c .if2 .left))
 
 pub door-fits-spec : {M : Type 1} → statement M

@@ -1,6 +1,6 @@
 -- `exit_fits` meets its contract. Assumes nothing.
 use borrow.Author.Needs.{needs}
-use Rattle.tables.specs.Tests.{exitFits}
+use Rattle.tables.specs.Tests.{exitInRange}
 use Rattle.rules.proofs.exit_fits.Statement.{statement}
 use Rattle.rules.proofs.exit_fits.Tie as tie
 
@@ -11,7 +11,7 @@ cast-result : tie.Need-cast-result
 cast-result c = search needs
 
 returns : tie.Need-returns
-unfolding exitFits
+unfolding exitInRange
 returns c = simp (c .byte-at .ensures)
 
 pub exit-fits-spec : {M : Type 1} → statement M

@@ -2,20 +2,20 @@
 -- Assumes nothing.
 use borrow.Author.Tests.{le-leb, lt-leb, lt-ltb, le-ltb}
 use Rattle.tables.specs.Tables.{andAlso}
-use Rattle.says.specs.Draft.{exitFits}
+use Rattle.site_sheet.specs.Draft.{exitRowFits}
 use Rattle.site.proofs.exit_fits.Statement.{statement}
 use Rattle.site.proofs.exit_fits.Tie as tie
 
 returns : tie.Need-returns
-unfolding exitFits andAlso
+unfolding exitRowFits andAlso
 returns c = simp (lt-leb _ _ (c .if1 .taken))
 
 returns-2 : tie.Need-returns-2
-unfolding exitFits andAlso
+unfolding exitRowFits andAlso
 returns-2 c = simp (le-leb _ _ (c .before .if1 .left), le-ltb _ _ (c .if2 .taken))
 
 returns-3 : tie.Need-returns-3
-unfolding exitFits andAlso
+unfolding exitRowFits andAlso
 returns-3 c = simp (le-leb _ _ (c .before .if1 .left), lt-ltb _ _ (c .if2 .left))
 
 pub exit-fits-spec : {M : Type 1} → statement M

@@ -1,6 +1,6 @@
 -- `site::is_header` meets its contract.
 -- Assumes nothing.
-use Rattle.says.specs.Line.{headerAt}
+use Rattle.site_sheet.specs.Line.{siteHeaderAt}
 use borrow.Author.Needs.{needs}
 use Rattle.site.proofs.is_header.Statement.{statement}
 use Rattle.site.proofs.is_header.Tie as tie
@@ -18,7 +18,7 @@ says-words-requires : tie.Need-says-words-requires
 says-words-requires c κs = search needs
 
 returns : tie.Need-returns
-unfolding headerAt
+unfolding siteHeaderAt
 returns c = c .says-words .ensures
 
 pub is-header-spec : {M : Type 1} → statement M

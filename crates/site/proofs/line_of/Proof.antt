@@ -2,13 +2,13 @@
 -- Assumes nothing.
 use mathlib.Core.Path.{sym, _∙_}
 use borrow.Author.Tests.{eq-eqb, ne-eqb}
-use Rattle.says.specs.Line.{lineAt}
+use Rattle.site_sheet.specs.Line.{siteLineAt}
 use borrow.Author.Needs.{needs}
 use Rattle.site.proofs.line_of.Statement.{statement}
 use Rattle.site.proofs.line_of.Tie as tie
 
 returns : tie.Need-returns
-unfolding lineAt
+unfolding siteLineAt
 returns c = simp (ne-eqb _ _ (c .if1 .taken))
 
 number-of-requires : tie.Need-number-of-requires
@@ -21,7 +21,7 @@ enum-told : tie.Need-enum-told
 enum-told c = search needs
 
 returns-2 : tie.Need-returns-2
-unfolding lineAt
+unfolding siteLineAt
 returns-2 c = simp (eq-eqb _ _ (c .before .before .before .before .before .before .if1 .left), sym (c .before .before .number-of .ensures) ∙ c .enum-told .given .1)
 
 number-of-requires-2 : tie.Need-number-of-requires-2
@@ -34,7 +34,7 @@ enum-told-2 : tie.Need-enum-told-2
 enum-told-2 c = search needs
 
 returns-3 : tie.Need-returns-3
-unfolding lineAt
+unfolding siteLineAt
 returns-3 c = simp (eq-eqb _ _ (c .before .before .before .before .before .before .before .before .before .before .if1 .left), sym (c .before .before .before .before .before .before .number-of .ensures) ∙ c .before .before .before .before .a .given .1, sym (c .before .before .number-of2 .ensures) ∙ c .enum-told2 .given .1)
 
 word-of-requires : tie.Need-word-of-requires
@@ -56,23 +56,23 @@ enum-told-7 : tie.Need-enum-told-7
 enum-told-7 c = search needs
 
 returns-4 : tie.Need-returns-4
-unfolding lineAt
+unfolding siteLineAt
 returns-4 c = simp (eq-eqb _ _ (c .before .before .before .before .before .before .before .before .before .before .before .before .before .before .if1 .left), sym (c .before .before .before .before .before .before .before .before .before .before .number-of .ensures) ∙ c .before .before .before .before .before .before .before .before .a .given .1, sym (c .before .before .before .before .before .before .number-of2 .ensures) ∙ c .before .before .before .before .b .given .1, sym (c .before .before .word-of .ensures) ∙ c .enum-told3 .given .1)
 
 returns-5 : tie.Need-returns-5
-unfolding lineAt
+unfolding siteLineAt
 returns-5 c = simp (eq-eqb _ _ (c .before .before .before .before .before .before .before .before .before .before .before .before .before .before .if1 .left), sym (c .before .before .before .before .before .before .before .before .before .before .number-of .ensures) ∙ c .before .before .before .before .before .before .before .before .a .given .1, sym (c .before .before .before .before .before .before .number-of2 .ensures) ∙ c .before .before .before .before .b .given .1, sym (c .before .before .word-of .ensures) ∙ c .enum-told4 .given .1)
 
 returns-6 : tie.Need-returns-6
-unfolding lineAt
+unfolding siteLineAt
 returns-6 c = simp (eq-eqb _ _ (c .before .before .before .before .before .before .before .before .before .before .before .before .before .before .if1 .left), sym (c .before .before .before .before .before .before .before .before .before .before .number-of .ensures) ∙ c .before .before .before .before .before .before .before .before .a .given .1, sym (c .before .before .before .before .before .before .number-of2 .ensures) ∙ c .before .before .before .before .b .given .1, sym (c .before .before .word-of .ensures) ∙ c .enum-told5 .given .1)
 
 returns-7 : tie.Need-returns-7
-unfolding lineAt
+unfolding siteLineAt
 returns-7 c = simp (eq-eqb _ _ (c .before .before .before .before .before .before .before .before .before .before .before .before .before .before .if1 .left), sym (c .before .before .before .before .before .before .before .before .before .before .number-of .ensures) ∙ c .before .before .before .before .before .before .before .before .a .given .1, sym (c .before .before .before .before .before .before .number-of2 .ensures) ∙ c .before .before .before .before .b .given .1, sym (c .before .before .word-of .ensures) ∙ c .enum-told6 .given .1)
 
 returns-8 : tie.Need-returns-8
-unfolding lineAt
+unfolding siteLineAt
 returns-8 c = simp (eq-eqb _ _ (c .before .before .before .before .before .before .before .before .before .before .before .before .before .before .if1 .left), sym (c .before .before .before .before .before .before .before .before .before .before .number-of .ensures) ∙ c .before .before .before .before .before .before .before .before .a .given .1, sym (c .before .before .before .before .before .before .number-of2 .ensures) ∙ c .before .before .before .before .b .given .1, sym (c .before .before .word-of .ensures) ∙ c .enum-told7 .given .1)
 
 pub line-of-spec : {M : Type 1} → statement M

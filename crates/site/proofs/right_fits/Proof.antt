@@ -2,20 +2,20 @@
 -- Assumes nothing.
 use borrow.Author.Tests.{le-leb, lt-leb, lt-ltb, le-ltb}
 use Rattle.tables.specs.Tables.{andAlso}
-use Rattle.says.specs.Draft.{rightFits}
+use Rattle.site_sheet.specs.Draft.{rightRowFits}
 use Rattle.site.proofs.right_fits.Statement.{statement}
 use Rattle.site.proofs.right_fits.Tie as tie
 
 returns : tie.Need-returns
-unfolding rightFits andAlso
+unfolding rightRowFits andAlso
 returns c = simp (le-ltb _ _ (c .if1 .taken))
 
 returns-2 : tie.Need-returns-2
-unfolding rightFits andAlso
+unfolding rightRowFits andAlso
 returns-2 c = simp (lt-ltb _ _ (c .before .if1 .left), lt-leb _ _ (c .if2 .taken))
 
 returns-3 : tie.Need-returns-3
-unfolding rightFits andAlso
+unfolding rightRowFits andAlso
 returns-3 c = simp (lt-ltb _ _ (c .before .if1 .left), le-leb _ _ (c .if2 .left))
 
 pub right-fits-spec : {M : Type 1} → statement M

@@ -1,6 +1,6 @@
 -- `site::take` meets its contract: the line decides.
 -- Assumes nothing.
-use Rattle.says.specs.Draft.{takeLine}
+use Rattle.site_sheet.specs.Draft.{takeLine}
 use borrow.Author.Needs.{needs}
 use Rattle.site.proofs.take.Statement.{statement}
 use Rattle.site.proofs.take.Tie as tie

@@ -3,8 +3,8 @@
 use mathlib.Core.Path.{sym, _∙_}
 use native.Mathlib.Omega.{arith}
 use borrow.Author.Tests.{not-true, not-false, eq-eqb, ne-eqb}
-use Rattle.says.specs.Draft.{takeLine, takeRight}
-use Rattle.says.proofs.Fits.{right-in}
+use Rattle.site_sheet.specs.Draft.{takeLine, takeRight}
+use Rattle.site_sheet.proofs.Fits.{right-in}
 use borrow.Author.Needs.{needs}
 use Rattle.site.proofs.take_right.Statement.{statement}
 use Rattle.site.proofs.take_right.Tie as tie

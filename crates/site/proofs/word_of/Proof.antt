@@ -1,7 +1,7 @@
 -- `site::word_of` meets its contract: the words are tried in their order.
 -- Assumes nothing.
 use mathlib.Core.Path.{sym, _∙_}
-use Rattle.says.specs.Line.{wordOf}
+use Rattle.site_sheet.specs.Line.{wordOf}
 use borrow.Author.Needs.{needs}
 use Rattle.site.proofs.word_of.Statement.{statement}
 use Rattle.site.proofs.word_of.Tie as tie

@@ -1,6 +1,6 @@
 -- `room_for` meets its contract: the tests of `roomFor`, one after the other. Assumes nothing.
 use Rattle.record.specs.Run.{roomFor}
-use Rattle.sound.proofs.Cases.{chain}
+use Rattle.tables.proofs.Cases.{chain}
 use Rattle.record.proofs.series.room_for.Statement.{statement}
 use Rattle.record.proofs.series.room_for.Tie as tie
 

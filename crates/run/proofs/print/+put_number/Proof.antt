@@ -2,8 +2,8 @@
 use mathlib.Core.Path.{sym}
 use native.Mathlib.Omega.{arith}
 use borrow.Author.Needs.{needs}
-use Rattle.printed.specs.Text.{decimal}
-use Rattle.printed.proofs.Writing.{wrote, one, then, said, decimal-short, decimal-long, five-digits}
+use Rattle.run_text.specs.Text.{decimal}
+use Rattle.run_text.proofs.Writing.{wrote, one, then, said, decimal-short, decimal-long, five-digits}
 use Prim.Native.Nat.{ℕ, _/_, _<_}
 use borrow.Fn.Kinds.{In}
 use borrow.Fn.PlainCycle.{Measures, is, falls, and}

@@ -1,7 +1,7 @@
 -- `put` meets its contract: past the list's end nothing is written. Assumes nothing.
 use mathlib.Core.Path.{refl, sym}
 use borrow.Author.Needs.{needs}
-use Rattle.printed.proofs.Writing.{set-past}
+use Rattle.run_text.proofs.Writing.{set-past}
 use Rattle.run.proofs.print.put.Statement.{statement}
 use Rattle.run.proofs.print.put.Tie as tie
 

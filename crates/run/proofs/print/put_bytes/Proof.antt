@@ -3,7 +3,7 @@ use Prim.Native.Nat.{_-_}
 use native.Mathlib.Omega.{arith}
 use borrow.Author.Needs.{needs}
 use lib.ListN.{length, drop-of-length-le}
-use Rattle.printed.proofs.Writing.{Still, still-start, still-more, pending-end}
+use Rattle.run_text.proofs.Writing.{Still, still-start, still-more, pending-end}
 use Rattle.run.proofs.print.put_bytes.Statement.{statement}
 use Rattle.run.proofs.print.put_bytes.Tie as tie
 

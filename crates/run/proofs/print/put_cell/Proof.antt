@@ -2,8 +2,8 @@
 use mathlib.Core.List.{[], _∷_}
 use native.Mathlib.Omega.{arith}
 use lib.ListN.{length-append}
-use Rattle.printed.specs.Text.{decimal, cell}
-use Rattle.printed.proofs.Writing.{wrote, one, then, five-digits}
+use Rattle.run_text.specs.Text.{decimal, cellText}
+use Rattle.run_text.proofs.Writing.{wrote, one, then, five-digits}
 use borrow.Author.Needs.{needs}
 use Rattle.run.proofs.print.put_cell.Statement.{statement}
 use Rattle.run.proofs.print.put_cell.Tie as tie
@@ -18,7 +18,7 @@ same-length : tie.Need-same-length
 same-length c = search needs
 
 returns : tie.Need-returns
-unfolding cell
+unfolding cellText
 returns c =
     let a = c .before .before .before .before .before .before .before .before .before .args in
     let p = c .before .before .before .before .before .before .before .before .before .pre in

@@ -2,8 +2,8 @@
 use native.Mathlib.Omega.{arith}
 use mathlib.Core.List.{[], _∷_}
 use Rattle.grammar.specs.Grammar.{comma}
-use Rattle.printed.specs.Text.{cell, rowText}
-use Rattle.printed.proofs.Writing.{wrote, then}
+use Rattle.run_text.specs.Text.{cellText, rowOfNumbers}
+use Rattle.run_text.proofs.Writing.{wrote, then}
 use borrow.Author.Needs.{needs}
 use Rattle.run.proofs.print.put_four.Statement.{statement}
 use Rattle.run.proofs.print.put_four.Tie as tie
@@ -23,12 +23,12 @@ same-length : tie.Need-same-length
 same-length c = search needs
 
 returns : tie.Need-returns
-unfolding rowText
+unfolding rowOfNumbers
 returns c =
     let a = c .before .before .before .before .before .before .before .before .before .before .before .before .before .args in
-    let x = wrote (cell (a .row) comma) (c .before .before .before .before .before .before .before .before .before .before .put-cell .ensures .0) (c .before .before .before .before .before .before .before .before .before .before .put-cell .ensures .1 .1) in
-    let y = wrote (cell (a .answer) comma) (c .before .before .before .before .before .before .put-cell2 .ensures .0) (c .before .before .before .before .before .before .put-cell2 .ensures .1 .1) in
-    let z = wrote (rowText (a .phase) (a .reason ∷ [])) (c .before .before .put-pair .ensures .0) (c .before .before .put-pair .ensures .1) in
+    let x = wrote (cellText (a .row) comma) (c .before .before .before .before .before .before .before .before .before .before .put-cell .ensures .0) (c .before .before .before .before .before .before .before .before .before .before .put-cell .ensures .1 .1) in
+    let y = wrote (cellText (a .answer) comma) (c .before .before .before .before .before .before .put-cell2 .ensures .0) (c .before .before .before .before .before .before .put-cell2 .ensures .1 .1) in
+    let z = wrote (rowOfNumbers (a .phase) (a .reason ∷ [])) (c .before .before .put-pair .ensures .0) (c .before .before .put-pair .ensures .1) in
     let w = then x (then y z) in
     (w .place, w .out)
 

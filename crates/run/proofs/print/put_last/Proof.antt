@@ -1,8 +1,8 @@
 -- `put_last` meets its contract: the number, then CR and LF. Assumes nothing.
 use native.Mathlib.Omega.{arith}
 use Rattle.grammar.specs.Grammar.{cr}
-use Rattle.printed.specs.Text.{cell, rowText}
-use Rattle.printed.proofs.Writing.{wrote, one, then}
+use Rattle.run_text.specs.Text.{cellText, rowOfNumbers}
+use Rattle.run_text.proofs.Writing.{wrote, one, then}
 use borrow.Author.Needs.{needs}
 use Rattle.run.proofs.print.put_last.Statement.{statement}
 use Rattle.run.proofs.print.put_last.Tie as tie
@@ -17,9 +17,9 @@ same-length : tie.Need-same-length
 same-length c = search needs
 
 returns : tie.Need-returns
-unfolding rowText
+unfolding rowOfNumbers
 returns c =
-    let w = then (wrote (cell (c .before .before .before .before .before .before .before .before .before .args .n) cr) (c .before .before .before .before .before .before .put-cell .ensures .0) (c .before .before .before .before .before .before .put-cell .ensures .1 .1)) (one (c .before .before .put .ensures .0) (c .before .before .put .ensures .1)) in
+    let w = then (wrote (cellText (c .before .before .before .before .before .before .before .before .before .args .n) cr) (c .before .before .before .before .before .before .put-cell .ensures .0) (c .before .before .before .before .before .before .put-cell .ensures .1 .1)) (one (c .before .before .put .ensures .0) (c .before .before .put .ensures .1)) in
     (w .place, w .out)
 
 pub put-last-spec : {M : Type 1} → statement M

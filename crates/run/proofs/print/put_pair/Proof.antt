@@ -2,8 +2,8 @@
 use native.Mathlib.Omega.{arith}
 use mathlib.Core.List.{[]}
 use Rattle.grammar.specs.Grammar.{comma}
-use Rattle.printed.specs.Text.{cell, rowText}
-use Rattle.printed.proofs.Writing.{wrote, then}
+use Rattle.run_text.specs.Text.{cellText, rowOfNumbers}
+use Rattle.run_text.proofs.Writing.{wrote, then}
 use borrow.Author.Needs.{needs}
 use Rattle.run.proofs.print.put_pair.Statement.{statement}
 use Rattle.run.proofs.print.put_pair.Tie as tie
@@ -18,9 +18,9 @@ same-length : tie.Need-same-length
 same-length c = search needs
 
 returns : tie.Need-returns
-unfolding rowText
+unfolding rowOfNumbers
 returns c =
-    let w = then (wrote (cell (c .before .before .before .before .before .before .before .before .before .args .person) comma) (c .before .before .before .before .before .before .put-cell .ensures .0) (c .before .before .before .before .before .before .put-cell .ensures .1 .1)) (wrote (rowText (c .before .before .before .before .before .before .before .before .before .args .location) []) (c .before .before .put-last .ensures .0) (c .before .before .put-last .ensures .1)) in
+    let w = then (wrote (cellText (c .before .before .before .before .before .before .before .before .before .args .person) comma) (c .before .before .before .before .before .before .put-cell .ensures .0) (c .before .before .before .before .before .before .put-cell .ensures .1 .1)) (wrote (rowOfNumbers (c .before .before .before .before .before .before .before .before .before .args .location) []) (c .before .before .put-last .ensures .0) (c .before .before .put-last .ensures .1)) in
     (w .place, w .out)
 
 pub put-pair-spec : {M : Type 1} → statement M

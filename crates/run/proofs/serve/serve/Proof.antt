@@ -6,9 +6,9 @@ use lib.ListN.{length}
 use lib.Seq.{length-take-le}
 use Rattle.record.specs.Run.{answerTold, phaseTold, reasonTold}
 use Rattle.grammar.specs.Rows.{rowsFrom}
-use Rattle.printed.specs.declared.steps.Decoded.{Decoded}
-use Rattle.printed.specs.Steps.{stepsFrom}
-use Rattle.printed.proofs.Serving.{steps-even, decoded-are, ran-steps, told-steps}
+use Rattle.run_text.specs.declared.steps.Decoded.{Decoded}
+use Rattle.run_text.specs.Steps.{stepsFrom}
+use Rattle.run_text.proofs.Serving.{steps-even, decoded-are, ran-steps, told-steps}
 use borrow.Author.Needs.{needs}
 use Rattle.run.proofs.serve.serve.Statement.{statement}
 use Rattle.run.proofs.serve.serve.Tie as tie

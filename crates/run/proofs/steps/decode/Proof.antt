@@ -5,7 +5,7 @@ use native.Mathlib.Omega.{arith}
 use borrow.Author.Needs.{needs}
 use lib.ListN.{length}
 use Rattle.grammar.proofs.Reading.{cut-there}
-use Rattle.printed.proofs.Decoding.{Decoding, decode-start, decode-room, decode-more, decode-bad, decode-over, decode-broken}
+use Rattle.run_text.proofs.Decoding.{Decoding, decode-start, decode-room, decode-more, decode-bad, decode-over, decode-broken}
 use Rattle.run.proofs.steps.decode.Statement.{statement}
 use Rattle.run.proofs.steps.decode.Tie as tie
 

@@ -3,8 +3,8 @@ use mathlib.Core.Path.{sym, _∙_}
 use borrow.Author.Tests.{not-true, not-false, lt-ltb, le-ltb}
 use native.Mathlib.Omega.{arith}
 use lib.ListN.{length}
-use Rattle.says.specs.Site.{limit}
-use Rattle.printed.specs.Steps.{headingOf}
+use Rattle.grammar.specs.Sizes.{limit}
+use Rattle.run_text.specs.Steps.{headingOf}
 use borrow.Author.Needs.{needs}
 use Rattle.run.proofs.steps.heading_of.Statement.{statement}
 use Rattle.run.proofs.steps.heading_of.Tie as tie

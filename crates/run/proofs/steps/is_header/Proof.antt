@@ -1,6 +1,6 @@
 -- `steps::is_header` meets its contract.
 -- Assumes nothing.
-use Rattle.printed.specs.Steps.{headerAt}
+use Rattle.run_text.specs.Steps.{stepsHeaderAt}
 use borrow.Author.Needs.{needs}
 use Rattle.run.proofs.steps.is_header.Statement.{statement}
 use Rattle.run.proofs.steps.is_header.Tie as tie
@@ -18,7 +18,7 @@ says-words-requires : tie.Need-says-words-requires
 says-words-requires c κs = search needs
 
 returns : tie.Need-returns
-unfolding headerAt
+unfolding stepsHeaderAt
 returns c = c .says-words .ensures
 
 pub is-header-spec : {M : Type 1} → statement M

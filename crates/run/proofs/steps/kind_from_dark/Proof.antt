@@ -1,6 +1,6 @@
 -- `kind_from_dark` meets its contract: the words are tried in their order. Assumes nothing.
 use mathlib.Core.Path.{sym, _∙_}
-use Rattle.printed.specs.Steps.{placeAmong}
+use Rattle.run_text.specs.Steps.{placeAmong}
 use borrow.Author.Needs.{needs}
 use Rattle.run.proofs.steps.kind_from_dark.Statement.{statement}
 use Rattle.run.proofs.steps.kind_from_dark.Tie as tie

@@ -1,6 +1,6 @@
 -- `kind_of` meets its contract: the words are tried in their order. Assumes nothing.
 use mathlib.Core.Path.{sym, _∙_}
-use Rattle.printed.specs.Steps.{kindAt, placeAmong}
+use Rattle.run_text.specs.Steps.{kindAt, placeAmong}
 use borrow.Author.Needs.{needs}
 use Rattle.run.proofs.steps.kind_of.Statement.{statement}
 use Rattle.run.proofs.steps.kind_of.Tie as tie

@@ -2,22 +2,22 @@
 use mathlib.Core.Path.{sym, _∙_}
 use native.Mathlib.Omega.{arith}
 use borrow.Author.Tests.{eq-eqb, ne-eqb}
-use Rattle.printed.specs.Steps.{lineAt}
+use Rattle.run_text.specs.Steps.{stepsLineAt}
 use Rattle.grammar.proofs.Saying.{number-small}
-use Rattle.printed.proofs.Decoding.{person-small}
+use Rattle.run_text.proofs.Decoding.{person-small}
 use borrow.Author.Needs.{needs}
 use Rattle.run.proofs.steps.line_of.Statement.{statement}
 use Rattle.run.proofs.steps.line_of.Tie as tie
 
 returns : tie.Need-returns
-unfolding lineAt
+unfolding stepsLineAt
 returns c = simp (ne-eqb _ _ (c .if1 .taken))
 
 kind-of-requires : tie.Need-kind-of-requires
 kind-of-requires c κs = search needs
 
 returns-2 : tie.Need-returns-2
-unfolding lineAt
+unfolding stepsLineAt
 returns-2 c = rw (eq-eqb _ _ (c .before .before .before .before .before .if1 .left), sym (c .before .kind-of .ensures), eq-eqb _ _ (c .if2 .taken))
 
 number-of-requires : tie.Need-number-of-requires
@@ -30,7 +30,7 @@ enum-told : tie.Need-enum-told
 enum-told c = search needs
 
 returns-3 : tie.Need-returns-3
-unfolding lineAt
+unfolding stepsLineAt
 returns-3 c = rw (eq-eqb _ _ (c .before .before .before .before .before .before .before .before .if1 .left), sym (c .before .before .before .before .kind-of .ensures), ne-eqb _ _ (c .before .before .before .if2 .left), sym (c .before .before .number-of .ensures) ∙ c .enum-told .given .1)
 
 person-of-requires : tie.Need-person-of-requires
@@ -43,7 +43,7 @@ enum-told-2 : tie.Need-enum-told-2
 enum-told-2 c = search needs
 
 returns-4 : tie.Need-returns-4
-unfolding lineAt
+unfolding stepsLineAt
 returns-4 c = rw (eq-eqb _ _ (c .before .before .before .before .before .before .before .before .before .before .before .before .if1 .left), sym (c .before .before .before .before .before .before .before .before .kind-of .ensures), ne-eqb _ _ (c .before .before .before .before .before .before .before .if2 .left), sym (c .before .before .before .before .before .before .number-of .ensures) ∙ c .before .before .before .before .door .given .1, sym (c .before .before .person-of .ensures) ∙ c .enum-told2 .given .1)
 
 cast-t12 : tie.Need-cast-t12
@@ -53,7 +53,7 @@ cast-t13 : tie.Need-cast-t13
 cast-t13 c = let small = person-small _ _ _ (sym (c .before .before .before .person-of .ensures) ∙ c .before .person .given .1) in omega arith
 
 returns-5 : tie.Need-returns-5
-unfolding lineAt
+unfolding stepsLineAt
 returns-5 c = rw (eq-eqb _ _ (c .before .before .before .before .before .before .before .before .before .before .before .before .before .if1 .left), sym (c .before .before .before .before .before .before .before .before .before .kind-of .ensures), ne-eqb _ _ (c .before .before .before .before .before .before .before .before .if2 .left), sym (c .before .before .before .before .before .before .before .number-of .ensures) ∙ c .before .before .before .before .before .door .given .1, sym (c .before .before .before .person-of .ensures) ∙ c .before .person .given .1)
 
 pub line-of-spec : {M : Type 1} → statement M

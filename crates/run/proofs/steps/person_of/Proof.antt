@@ -1,7 +1,7 @@
 -- `person_of` meets its contract. Assumes nothing.
 use mathlib.Core.Path.{sym, _∙_}
 use borrow.Author.Tests.{eq-eqb, ne-eqb}
-use Rattle.printed.specs.Steps.{personAt}
+use Rattle.run_text.specs.Steps.{personAt}
 use borrow.Author.Needs.{needs}
 use Rattle.run.proofs.steps.person_of.Statement.{statement}
 use Rattle.run.proofs.steps.person_of.Tie as tie

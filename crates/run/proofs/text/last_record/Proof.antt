@@ -1,6 +1,6 @@
 -- `last_record` meets its contract, by the steps' heading. Assumes nothing.
 use mathlib.Core.Path.{sym, _∙_}
-use Rattle.printed.proofs.Sheets.{headed-short}
+use Rattle.run_text.proofs.Sheets.{headed-short}
 use borrow.Author.Needs.{needs}
 use Rattle.run.proofs.text.last_record.Statement.{statement}
 use Rattle.run.proofs.text.last_record.Tie as tie

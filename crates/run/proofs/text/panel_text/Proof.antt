@@ -1,6 +1,6 @@
 -- `panel_text` meets its contract: the site's refusal, then what becomes of the steps sheet. Assumes nothing.
 use mathlib.Core.Path.{refl}
-use Rattle.printed.proofs.Sheets.{text-is, panel-refused, fresh-sound, panel-is}
+use Rattle.run_text.proofs.Sheets.{text-is, panel-refused, fresh-sound, panel-is}
 use borrow.Author.Needs.{needs}
 use Rattle.run.proofs.text.panel_text.Statement.{statement}
 use Rattle.run.proofs.text.panel_text.Tie as tie

@@ -1,7 +1,7 @@
 -- `print_headed` meets its contract: a number alone, or the run, by the steps' heading. Assumes nothing.
 use mathlib.Core.Path.{sym, ap, _∙_}
-use Rattle.printed.specs.Printed.{stepsText}
-use Rattle.printed.proofs.Sheets.{headed-short, text-is}
+use Rattle.run_text.specs.Printed.{stepsText}
+use Rattle.run_text.proofs.Sheets.{headed-short, text-is}
 use borrow.Author.Needs.{needs}
 use Rattle.run.proofs.text.print_headed.Statement.{statement}
 use Rattle.run.proofs.text.print_headed.Tie as tie

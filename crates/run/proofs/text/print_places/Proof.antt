@@ -1,6 +1,6 @@
 -- `print_places` meets its contract: the text is measured, and written where it fits. Assumes nothing.
-use Rattle.printed.specs.Printed.{placesText}
-use Rattle.printed.proofs.Fitting.{too-short, fitted}
+use Rattle.run_text.specs.Printed.{placesText}
+use Rattle.run_text.proofs.Fitting.{too-short, fitted}
 use borrow.Author.Needs.{needs}
 use Rattle.run.proofs.text.print_places.Statement.{statement}
 use Rattle.run.proofs.text.print_places.Tie as tie

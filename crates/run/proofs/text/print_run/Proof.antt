@@ -1,6 +1,6 @@
 -- `print_run` meets its contract: the text is measured, and written where it fits. Assumes nothing.
-use Rattle.printed.specs.Printed.{runText}
-use Rattle.printed.proofs.Fitting.{too-short, fitted}
+use Rattle.run_text.specs.Printed.{runText}
+use Rattle.run_text.proofs.Fitting.{too-short, fitted}
 use borrow.Author.Needs.{needs}
 use Rattle.run.proofs.text.print_run.Statement.{statement}
 use Rattle.run.proofs.text.print_run.Tie as tie

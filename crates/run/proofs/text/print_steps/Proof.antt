@@ -5,9 +5,9 @@ use lib.ListN.{length, take}
 use lib.Seq.{length-take-le}
 use Rattle.grammar.specs.Rows.{rowsFrom}
 use Rattle.record.specs.Run.{toldOf, answerTold, phaseTold, reasonTold}
-use Rattle.printed.specs.declared.serve.Served.{Served}
-use Rattle.printed.specs.Steps.{stepsFrom, rowsIn}
-use Rattle.printed.proofs.Serving.{steps-even, steps-told, front-of}
+use Rattle.run_text.specs.declared.serve.Served.{Served}
+use Rattle.run_text.specs.Steps.{stepsFrom, rowsIn}
+use Rattle.run_text.proofs.Serving.{steps-even, steps-told, front-of}
 use borrow.Author.Needs.{needs}
 use Rattle.run.proofs.text.print_steps.Statement.{statement}
 use Rattle.run.proofs.text.print_steps.Tie as tie

@@ -2,9 +2,9 @@
 use mathlib.Core.Path.{_∙_}
 use mathlib.Core.List.{[], _∷_}
 use native.Mathlib.Nat.{zero-add}
-use Rattle.printed.specs.Text.{rowText}
-use Rattle.printed.specs.Printed.{panelHeader, aloneText}
-use Rattle.printed.proofs.Writing.{wrote, then}
+use Rattle.run_text.specs.Text.{rowOfNumbers}
+use Rattle.run_text.specs.Printed.{panelHeader, aloneText}
+use Rattle.run_text.proofs.Writing.{wrote, then}
 use borrow.Author.Needs.{needs}
 use Rattle.run.proofs.text.put_alone.Statement.{statement}
 use Rattle.run.proofs.text.put_alone.Tie as tie
@@ -25,7 +25,7 @@ returns : tie.Need-returns
 unfolding aloneText
 returns c =
     let h = wrote {before = c .before .before .before .before .before .before .before .before .before .before .args .out .now} panelHeader (c .before .before .before .before .before .before .put-bytes .ensures .0) (c .before .before .before .before .before .before .put-bytes .ensures .1) in
-    let w = then h (wrote (rowText 0 (c .before .before .before .before .before .before .before .before .before .before .args .number ∷ 0 ∷ 0 ∷ [])) (c .before .before .put-four .ensures .0) (c .before .before .put-four .ensures .1)) in
+    let w = then h (wrote (rowOfNumbers 0 (c .before .before .before .before .before .before .before .before .before .before .args .number ∷ 0 ∷ 0 ∷ [])) (c .before .before .put-four .ensures .0) (c .before .before .put-four .ensures .1)) in
     (w .place ∙ zero-add _, w .out)
 
 pub put-alone-spec : {M : Type 1} → statement M

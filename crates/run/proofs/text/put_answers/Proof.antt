@@ -3,9 +3,9 @@ use Prim.Native.Nat.{_+_, _-_}
 use native.Mathlib.Omega.{arith}
 use borrow.Author.Needs.{needs}
 use lib.ListN.{length}
-use Rattle.printed.specs.Printed.{panelRow}
-use Rattle.printed.proofs.Writing.{wrote, said, four-width}
-use Rattle.printed.proofs.Fitting.{Answering, answer-start, answer-more, answer-end}
+use Rattle.run_text.specs.Printed.{panelRow}
+use Rattle.run_text.proofs.Writing.{wrote, said, four-width}
+use Rattle.run_text.proofs.Fitting.{Answering, answer-start, answer-more, answer-end}
 use Rattle.run.proofs.text.put_answers.Statement.{statement}
 use Rattle.run.proofs.text.put_answers.Tie as tie
 

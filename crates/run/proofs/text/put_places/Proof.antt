@@ -7,10 +7,10 @@ use native.Mathlib.Nat.{zero-add}
 use borrow.Author.Needs.{needs}
 use lib.ListN.{length}
 use lib.Seq.{length-sets}
-use Rattle.printed.specs.Text.{rowText}
-use Rattle.printed.specs.Printed.{whereHeader, placesText}
-use Rattle.printed.proofs.Writing.{wrote, then, said, pair-width}
-use Rattle.printed.proofs.Fitting.{Placing, place-start, place-more, place-end}
+use Rattle.run_text.specs.Text.{rowOfNumbers}
+use Rattle.run_text.specs.Printed.{whereHeader, placesText}
+use Rattle.run_text.proofs.Writing.{wrote, then, said, pair-width}
+use Rattle.run_text.proofs.Fitting.{Placing, place-start, place-more, place-end}
 use Rattle.run.proofs.text.put_places.Statement.{statement}
 use Rattle.run.proofs.text.put_places.Tie as tie
 
@@ -54,7 +54,7 @@ loop-again c =
     let l = c .before .before .before .before .wide in
     let few = pair-width i (l .result) (omega (arith, c .before .before .before .before .before .before .before .before .before .before .before .before .before .before .before .pre)) (omega (arith, l .ensures .1)) in
     let e = c .before .before .put-pair .ensures in
-    place-more (c .before .before .before .before .before .before .before .loop .inv) inside (said (rw (l .ensures .0)) (wrote (rowText i (l .result ∷ [])) (e .0) (e .1))) (omega (arith, e .0))
+    place-more (c .before .before .before .before .before .before .before .loop .inv) inside (said (rw (l .ensures .0)) (wrote (rowOfNumbers i (l .result ∷ [])) (e .0) (e .1))) (omega (arith, e .0))
 
 same-length : tie.Need-same-length Inv-loop μ-loop
 same-length c = c .before .loop .inv .pending .long ∙ ap length (c .before .before .before .before .put-bytes .ensures .1) ∙ length-sets (c .before .before .before .before .before .before .before .before .before .args .out .now) 0 whereHeader

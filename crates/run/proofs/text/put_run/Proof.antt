@@ -3,9 +3,9 @@ use Prim.Native.Nat.{_+_}
 use mathlib.Core.Path.{_∙_}
 use native.Mathlib.Nat.{zero-add}
 use lib.ListN.{length}
-use Rattle.printed.specs.Printed.{panelHeader, panelRow, answerRows}
-use Rattle.printed.proofs.Writing.{wrote, then, said}
-use Rattle.printed.proofs.Fitting.{run-whole, run-broken}
+use Rattle.run_text.specs.Printed.{panelHeader, panelRow, answerRows}
+use Rattle.run_text.proofs.Writing.{wrote, then, said}
+use Rattle.run_text.proofs.Fitting.{run-whole, run-broken}
 use borrow.Author.Needs.{needs}
 use Rattle.run.proofs.text.put_run.Statement.{statement}
 use Rattle.run.proofs.text.put_run.Tie as tie

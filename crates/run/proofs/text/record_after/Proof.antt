@@ -1,7 +1,7 @@
 -- `record_after` meets its contract: the record that the run hands back. Assumes nothing.
 use mathlib.Core.Path.{ap}
 use native.Mathlib.Omega.{arith}
-use Rattle.printed.specs.declared.serve.Served.{Served}
+use Rattle.run_text.specs.declared.serve.Served.{Served}
 use borrow.Author.Needs.{needs}
 use Rattle.run.proofs.text.record_after.Statement.{statement}
 use Rattle.run.proofs.text.record_after.Tie as tie

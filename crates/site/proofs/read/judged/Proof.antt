@@ -1,7 +1,7 @@
 -- `site::read::judged` meets its contract: the first rule that finds an offender decides.
 -- Assumes nothing.
 use mathlib.Core.Path.{sym, _∙_}
-use Rattle.says.specs.Site.{judged}
+use Rattle.site_sheet.specs.Site.{judged}
 use borrow.Author.Needs.{needs}
 use Rattle.site.proofs.read.judged.Statement.{statement}
 use Rattle.site.proofs.read.judged.Tie as tie

@@ -1,7 +1,7 @@
 -- `site::read::read_rows` meets its contract: the rows are taken into blank tables.
 -- Assumes nothing.
 use Rattle.record.specs.Doors.{zeros}
-use Rattle.says.specs.Draft.{unmarked}
+use Rattle.site_sheet.specs.Draft.{unmarked}
 use borrow.Author.Needs.{needs}
 use Rattle.site.proofs.read.read_rows.Statement.{statement}
 use Rattle.site.proofs.read.read_rows.Tie as tie

@@ -2,7 +2,7 @@
 -- Assumes nothing.
 use mathlib.Core.Path.{sym, _∙_}
 use borrow.Author.Tests.{not-true, not-false, lt-ltb, le-ltb}
-use Rattle.says.specs.Site.{siteOf, afterHeader}
+use Rattle.site_sheet.specs.Site.{siteOf, afterHeader}
 use borrow.Author.Needs.{needs}
 use Rattle.site.proofs.read.read_site.Statement.{statement}
 use Rattle.site.proofs.read.read_site.Tie as tie

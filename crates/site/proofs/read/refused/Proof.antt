@@ -1,6 +1,6 @@
 -- `site::read::refused` meets its contract.
 -- Assumes nothing.
-use Rattle.says.specs.Draft.{unmarked}
+use Rattle.site_sheet.specs.Draft.{unmarked}
 use Rattle.record.specs.Doors.{zeros}
 use borrow.Author.Needs.{needs}
 use Rattle.site.proofs.read.refused.Statement.{statement}

@@ -2,7 +2,7 @@
 -- Assumes nothing.
 use mathlib.Core.Path.{sym, _∙_}
 use borrow.Author.Tests.{not-true, not-false, eq-eqb, ne-eqb}
-use Rattle.says.specs.Site.{settled}
+use Rattle.site_sheet.specs.Site.{settled}
 use borrow.Author.Needs.{needs}
 use Rattle.site.proofs.read.settled.Statement.{statement}
 use Rattle.site.proofs.read.settled.Tie as tie

@@ -6,18 +6,18 @@ use native.Mathlib.Omega.{arith}
 use lib.ListN.{length}
 use borrow.Author.Tests.{not-true, not-false}
 use Rattle.grammar.proofs.Reading.{cut-there}
-use Rattle.says.specs.Draft.{takeLine}
-use Rattle.says.specs.Lent.{noCounts, draftOf}
-use Rattle.says.specs.Site.{linesIn, readLines}
-use Rattle.says.proofs.Bounds.{bounded-blank}
-use Rattle.says.proofs.Loop.{ReadSoFar, read-start, read-turn, read-stop, read-more}
+use Rattle.site_sheet.specs.Draft.{takeLine}
+use Rattle.site_sheet.specs.Lent.{noCounts, draftWith}
+use Rattle.site_sheet.specs.Site.{linesIn, readLines}
+use Rattle.site_sheet.proofs.Bounds.{bounded-blank}
+use Rattle.site_sheet.proofs.Loop.{ReadSoFar, read-start, read-turn, read-stop, read-more}
 use borrow.Author.Needs.{needs}
 use Rattle.site.proofs.read.take_rows.Statement.{statement}
 use Rattle.site.proofs.read.take_rows.Tie as tie
 
 abbrev Inv-loop : tie.InvT-loop
 Inv-loop s from origin₀ destination₀ exit₀ given₀ right₀ counts₀ at₀ row₀ origin destination exit given right counts at row =
-    ReadSoFar s from (draftOf noCounts origin₀ destination₀ exit₀ given₀ right₀) (draftOf counts origin destination exit given right) at row
+    ReadSoFar s from (draftWith noCounts origin₀ destination₀ exit₀ given₀ right₀) (draftWith counts origin destination exit given right) at row
 
 abbrev μ-loop : tie.MeasureT-loop
 μ-loop s from origin₀ destination₀ exit₀ given₀ right₀ counts₀ at₀ row₀ origin destination exit given right counts at row =

@@ -1,7 +1,7 @@
 -- `Record::granted_to` meets its contract: the tests of `grantedTo`, one after the other. Assumes nothing.
 use mathlib.Core.Path.{ap, _∙_}
 use Rattle.record.specs.Questions.{grantFound, grantedTo}
-use Rattle.sound.proofs.Cases.{picks}
+use Rattle.tables.proofs.Cases.{picks}
 use borrow.Author.Needs.{needs}
 use Rattle.record.proofs.record.Record.granted_to.Statement.{statement}
 use Rattle.record.proofs.record.Record.granted_to.Tie as tie

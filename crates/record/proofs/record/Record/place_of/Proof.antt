@@ -2,7 +2,7 @@
 use mathlib.Core.Path.{ap}
 use Rattle.record.specs.declared.questions.PlaceAnswer.the-variants.{At}
 use Rattle.record.specs.Questions.{placeOf}
-use Rattle.sound.proofs.Cases.{picks}
+use Rattle.tables.proofs.Cases.{picks}
 use borrow.Author.Needs.{needs}
 use Rattle.record.proofs.record.Record.place_of.Statement.{statement}
 use Rattle.record.proofs.record.Record.place_of.Tie as tie

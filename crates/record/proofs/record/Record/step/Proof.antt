@@ -3,7 +3,7 @@ use mathlib.Core.Path.{sym, _∙_}
 use borrow.Author.Tests.{not-false}
 use Rattle.record.specs.Doors.{Shaped}
 use Rattle.record.specs.Steps.{stepOf}
-use Rattle.sound.proofs.Cases.{picks, pick-on}
+use Rattle.tables.proofs.Cases.{picks, pick-on}
 use Rattle.record.proofs.Deeds.{known, stepped}
 use Rattle.record.proofs.Tells.{sound-tells}
 use borrow.Author.Needs.{needs}

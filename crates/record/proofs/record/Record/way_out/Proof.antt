@@ -1,7 +1,7 @@
 -- `Record::way_out` meets its contract: the tests of `wayAnswerOf`, one after the other. Assumes nothing.
 use mathlib.Core.Path.{ap, _∙_}
 use Rattle.record.specs.Questions.{wayFound, wayAnswerOf, wayWritten}
-use Rattle.sound.proofs.Cases.{picks}
+use Rattle.tables.proofs.Cases.{picks}
 use borrow.Author.Needs.{needs}
 use Rattle.record.proofs.record.Record.way_out.Statement.{statement}
 use Rattle.record.proofs.record.Record.way_out.Tie as tie

@@ -1,0 +1,44 @@
+// `rounds`: does what `panel` does, as many times over as its argument says (once without one), and writes the last text.
+// bench/run times it.
+use libc::STDOUT_FILENO;
+use run::text::MOST_PANEL_TEXT;
+use run::text::panel_text;
+use run_text::text::Printed;
+use sheet_files::ROOM;
+use sheet_files::number_asked;
+use sheet_files::read_sheet;
+
+// The same text again and again into the same list; the last one's length, 0 for no round.
+fn text_in_rounds<'a>(rounds: usize, site: &'a [u8], steps: &'a [u8], out: &'a mut [u8]) -> usize {
+    let mut length = 0;
+    let mut n = 0;
+    while n < rounds {
+        length = text_once(site, steps, out);
+        n += 1;
+    }
+    length
+}
+
+fn text_once<'a>(site: &'a [u8], steps: &'a [u8], out: &'a mut [u8]) -> usize {
+    match panel_text(site, steps, out) {
+        Printed::Text(length) => length,
+        Printed::TooShort => 0,
+    }
+}
+
+fn main() {
+    let mut site = [0u8; ROOM];
+    let mut steps = [0u8; ROOM];
+    let mut out = [0u8; MOST_PANEL_TEXT];
+    let in_site = read_sheet(b"site.csv", &mut site);
+    let in_steps = read_sheet(b"steps.csv", &mut steps);
+    let length = text_in_rounds(
+        number_asked(1),
+        &site[..in_site],
+        &steps[..in_steps],
+        &mut out,
+    );
+    if length <= MOST_PANEL_TEXT {
+        io::write_all(STDOUT_FILENO, &out[0..length]);
+    }
+}

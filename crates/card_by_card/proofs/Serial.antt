@@ -1,0 +1,306 @@
+-- One card served at a record whose doors are all free, step by step: what each step of the service does, its ticks, and the
+-- whole service of a refusal, a lapse and a passage. Assumes nothing.
+use Prim.Native.Nat.{ℕ, zero, suc, _<_, _-_}
+use mathlib.Core.Path.{_≡_, refl, sym, ap, subst, _∙_}
+use mathlib.Core.Bool.{true, false, cond, false≢true}
+use mathlib.Core.Logic.{⊎-elim}
+use mathlib.Core.List.{List, [], _∷_}
+use native.Mathlib.Omega.{arith}
+use borrow.Author.Tests.{lt-ltb, ne-eqb}
+use lib.ListN.{getD, set}
+use lib.Seq.{set-set}
+use lib.Dec.{eqb}
+use Rattle.tables.specs.Tables.{orElse, andAlso}
+use Rattle.tables.proofs.Laws.{clash}
+use Rattle.door.specs.declared.Door.{Door}
+use Rattle.record.specs.declared.record.Record.{Record}
+use Rattle.phases.specs.declared.table.Kind.{Kind}
+use Rattle.phases.specs.declared.table.Kind.the-variants.{Card, Decide, Green, Red, Walk, Tick, Passed, Lapsed, Dark, Ack}
+use Rattle.phases.specs.declared.answer.Answer.the-variants.{Done}
+use Rattle.record.specs.declared.steps.Step.{Step}
+use Rattle.phases.specs.Phase.{read, granted, green, walked, expired, denied, red, dimmed, closed, greenSpan, redSpan, grants}
+use Rattle.door.specs.Door.{door, freeDoor}
+use Rattle.record.specs.Doors.{doorOf, tablesOf, putDoor, putAt, zeros, Shaped}
+use Rattle.granting.specs.Grants.{GrantAt}
+use Rattle.record.specs.Sound.{Sound}
+use Rattle.phases.specs.Kinds.{StepRow, allows, namesPerson}
+use Rattle.door.specs.declared.does.Does.the-variants.{Turns}
+use Rattle.door.specs.Does.{effect}
+use Rattle.record.specs.Steps.{reasonFor, First, none, away, barred, busy, act, doing, stepOf}
+use Rattle.record.specs.Run.{rowOf, lastOf}
+use Rattle.tables.proofs.Cases.{same-or-not}
+use Rattle.record.proofs.Keep.{put-same, put-other, put-shaped, at-shaped}
+use Rattle.record.proofs.Right.{reason-only}
+use Rattle.record.proofs.Laws.{allowed-does, sound-stays}
+use Rattle.record.proofs.Tells.{sound-tells}
+use Rattle.card_by_card.specs.Serving.{Decision, Granted, Denied, Ending, Refusal, Passage, Lapse, Entry, entry, isBusy, servedWith, servedAs, stepAt, cardOf, ticked, afterDecide, serviceOf}
+use Rattle.card_by_card.specs.Served.{Acts, end, then, Reads, granting, denying, decideOf}
+use Rattle.card_by_card.specs.Warden.{isPassage, placesBy}
+use Rattle.card_by_card.proofs.Cleared.{clear, cleared, clear-free, put-free, clear-shaped, clear-sound}
+
+-- ---- steps that act
+
+-- a step whose numbers exist and which the door's phase allows is done
+pub step-done : (r : Record) (k : Kind) (d p : ℕ) → Shaped r → Sound r → d < r .doors → (namesPerson k ≡ true → p < r .people)
+    → allows k (getD (r .phase) d 0) ≡ true → stepOf r k d p ≡ act r d (doing r k d p)
+step-done r k d p sh s hd hp ok = allowed-does r k d p (record { tested = sound-tells r sh .back s; a-door = hd; a-person = hp; allowed = ok })
+
+-- a door put twice is put as it was put last
+put-put : (x : Record) (d : ℕ) (a b : Door) → putDoor (putDoor x d a) d b ≡ putDoor x d b
+put-put x d a b =
+    let p = set-set (x .phase) d (a .phase) (b .phase) in
+    let q = set-set (x .holder) d (a .holder) (b .holder) in
+    let n = set-set (x .count) d (a .count) (b .count) in
+    λ i.
+    record {
+      people = x .people;
+      locations = x .locations;
+      doors = x .doors;
+      origin = x .origin;
+      destination = x .destination;
+      exit = x .exit;
+      right = x .right;
+      place = x .place;
+      phase = p i;
+      holder = q i;
+      count = n i;
+    }
+
+-- what a step that turns its door hands back
+abbrev pub turned : Record → ℕ → Door → ℕ → Step
+turned x d c why = record { next = putDoor x d c; answer = Done; phase = c .phase; reason = why }
+
+-- x with its door d as c is sound
+pub record At (x : Record) (d : ℕ) (c : Door) : Type 0 where
+  pub shaped : Shaped x
+  pub sound : Sound (putDoor x d c)
+  pub exists : d < x .doors
+
+-- from a record the steps of a list all act, and lead to another
+pub record Leads (r : Record) (rows : List StepRow) (after : Record) : Type 0 where
+  pub acts : Acts r rows
+  pub last : lastOf r rows ≡ after
+
+pub leads-end : (r : Record) → Leads r [] r
+unfolding lastOf
+leads-end r = record { acts = end; last = refl }
+
+pub leads-then : (r : Record) (row : StepRow) (s : Step) {rows : List StepRow} {y : Record} → rowOf r row ≡ s → s .answer ≡ Done → Leads (s .next) rows y
+    → Leads r (row ∷ rows) y
+unfolding lastOf
+leads-then r row s {rows} {y} e done on =
+    let on′ : Leads (rowOf r row .next) rows y = subst (λ (z : Step). Leads (z .next) rows y) (sym e) on in
+    record { acts = then (ap (λ (z : Step). z .answer) e ∙ done) (on′ .acts); last = on′ .last }
+
+-- ---- one door of x that isn't free
+
+module _ (x : Record) (d : ℕ) (c : Door) (so : At x d c) where
+  within : d < 64
+  within = let most = so .sound .tables .in-range .doors-to in let h = so .exists in omega arith
+
+  here : doorOf (putDoor x d c) d ≡ c
+  here = put-same x (so .shaped) d c within
+
+  -- a step there that is allowed does what its clause says of c
+  does : (k : Kind) (p : ℕ) → (namesPerson k ≡ true → p < x .people) → allows k (c .phase) ≡ true
+      → stepOf (putDoor x d c) k d p ≡ act (putDoor x d c) d (effect k p (reasonFor (putDoor x d c) d (c .holder)) c)
+  does k p hp ok =
+      step-done (putDoor x d c) k d p (put-shaped x (so .shaped) d c) (so .sound) (so .exists) hp (subst (λ (y : Door). allows k (y .phase) ≡ true) (sym here) ok)
+      ∙ ap (λ (y : Door). act (putDoor x d c) d (effect k p (reasonFor (putDoor x d c) d (y .holder)) y)) here
+
+  -- and where that turns the door, the door is turned
+  pub turns-to : (k : Kind) (p : ℕ) (c′ : Door) (why : ℕ) → (namesPerson k ≡ true → p < x .people) → allows k (c .phase) ≡ true
+      → effect k p (reasonFor (putDoor x d c) d (c .holder)) c ≡ Turns c′ why → stepOf (putDoor x d c) k d p ≡ turned x d c′ why
+  unfolding act
+  turns-to k p c′ why hp ok e =
+      does k p hp ok ∙ ap (act (putDoor x d c) d) e ∙ ap (λ (y : Record). record { next = y; answer = Done; phase = c′ .phase; reason = why }) (put-put x d c c′)
+
+  -- a record reached by a step is sound
+  pub at-next : (k : Kind) (p : ℕ) (c′ : Door) (why : ℕ) → stepOf (putDoor x d c) k d p ≡ turned x d c′ why → At x d c′
+  at-next k p c′ why e =
+      record {
+        shaped = so .shaped;
+        sound = subst (λ (s : Step). Sound (s .next)) e (sound-stays (putDoor x d c) k d p (put-shaped x (so .shaped) d c) (so .sound));
+        exists = so .exists;
+      }
+
+  -- one step of a service that names no person, and the rest of the service
+  turn : (k : Kind) (c′ : Door) {rows : List StepRow} {y : Record} → namesPerson k ≡ false → allows k (c .phase) ≡ true
+      → effect k 0 (reasonFor (putDoor x d c) d (c .holder)) c ≡ Turns c′ 0 → (At x d c′ → Leads (putDoor x d c′) rows y)
+      → Leads (putDoor x d c) (stepAt k d ∷ rows) y
+  turn k c′ nobody ok e on =
+      let to = turns-to k 0 c′ 0 (λ named. clash named nobody) ok e in
+      leads-then (putDoor x d c) (stepAt k d) (turned x d c′ 0) to refl (on (at-next k 0 c′ 0 to))
+
+-- ---- what follows a decision
+
+-- a light in phase ph burns down and leaves phase `out`
+record Light (ph out : ℕ) : Type 0 where
+  more : (h n why : ℕ) → effect Tick 0 why (door ph h (suc (suc n))) ≡ Turns (door ph h (suc n)) 0
+  last : (h why : ℕ) → effect Tick 0 why (door ph h 1) ≡ Turns (door out h 0) 0
+
+one-less : (n : ℕ) → suc (suc n) - 1 ≡ suc n
+one-less n = omega arith
+
+green-light : Light green expired
+unfolding effect
+green-light = record { more = λ h n why. simp (lt-ltb 1 (suc (suc n)) (omega arith), one-less n); last = λ h why. refl }
+
+red-light : Light red dimmed
+unfolding effect
+red-light = record { more = λ h n why. simp (lt-ltb 1 (suc (suc n)) (omega arith), one-less n); last = λ h why. refl }
+
+-- with n + 1 ticks to burn, it goes out with the last of them: by induction, whatever their number
+burning : (x : Record) (d : ℕ) {ph out : ℕ} → Light ph out → (h n : ℕ) {rows : List StepRow} {y : Record}
+    → (At x d (door out h 0) → Leads (putDoor x d (door out h 0)) rows y) → At x d (door ph h (suc n))
+    → Leads (putDoor x d (door ph h (suc n))) (ticked (suc n) d rows) y
+unfolding ticked allows
+burning x d {ph} {out} light h zero on so =
+    turn x d (door ph h 1) so Tick (door out h 0) refl refl (light .last h (reasonFor (putDoor x d (door ph h 1)) d h)) on
+burning x d {ph} {out} light h (suc n) on so =
+    turn x d (door ph h (suc (suc n))) so Tick (door ph h (suc n)) refl refl (light .more h n (reasonFor (putDoor x d (door ph h (suc (suc n)))) d h))
+    (burning x d light h n on)
+
+-- `ack` frees the door
+acked : (x : Record) (d : ℕ) → At x d (door closed 0 0) → Leads (putDoor x d (door closed 0 0)) (stepAt Ack d ∷ []) (putDoor x d freeDoor)
+unfolding allows effect
+acked x d so = turn x d (door closed 0 0) so Ack freeDoor refl refl refl (λ _. leads-end _)
+
+module _ (x : Record) (d : ℕ) where
+  after-denial : At x d (door denied 0 0) → Leads (putDoor x d (door denied 0 0)) (afterDecide Refusal d) (putDoor x d freeDoor)
+  unfolding afterDecide allows effect orElse
+  after-denial so =
+      turn x d (door denied 0 0) so Red (door red 0 redSpan) refl refl refl
+      (burning x d red-light 0 (redSpan - 1)
+      (λ out. turn x d (door dimmed 0 0) out Dark (door closed 0 0) refl refl refl (acked x d)))
+
+  -- `passed` at a walked door
+  passes : (h : ℕ) → At x d (door walked h 0)
+      → Leads (putDoor x d (door walked h 0)) (stepAt Passed d ∷ stepAt Ack d ∷ []) (putDoor (putAt x h (getD (x .destination) d 0)) d freeDoor)
+  unfolding allows effect act
+  passes h so =
+      let l = getD (x .destination) d 0 in
+      let c = door walked h 0 in
+      let to : stepOf (putDoor x d c) Passed d 0 ≡ turned (putAt x h l) d (door closed 0 0) 0 =
+      does x d c so Passed 0 (λ e. absurd (false≢true e)) refl
+      ∙ ap (λ (y : Door). record { next = putAt (putDoor (putDoor x d c) d (door closed 0 0)) (y .holder) l; answer = Done; phase = closed; reason = 0 }) (here x d c so)
+      ∙ ap (λ (y : Record). record { next = putAt y h l; answer = Done; phase = closed; reason = 0 }) (put-put x d c (door closed 0 0)) in
+      leads-then (putDoor x d c) (stepAt Passed d) (turned (putAt x h l) d (door closed 0 0) 0) to refl
+      (acked (putAt x h l) d
+      (record {
+        shaped = at-shaped x (so .shaped) h l;
+        sound = subst (λ (y : Step). Sound (y .next)) to (sound-stays (putDoor x d c) Passed d 0 (put-shaped x (so .shaped) d c) (so .sound));
+        exists = so .exists;
+      }))
+
+  after-lapse : (h : ℕ) → At x d (door granted h 0) → Leads (putDoor x d (door granted h 0)) (afterDecide Lapse d) (putDoor x d freeDoor)
+  unfolding afterDecide allows effect orElse
+  after-lapse h so =
+      turn x d (door granted h 0) so Green (door green h greenSpan) refl refl refl
+      (burning x d green-light h (greenSpan - 1)
+      (λ out. turn x d (door expired h 0) out Lapsed (door closed 0 0) refl refl refl (acked x d)))
+
+  -- the person is put in the door's destination by `passed`, and by no other step of the service
+  after-passage : (h : ℕ) → At x d (door granted h 0)
+      → Leads (putDoor x d (door granted h 0)) (afterDecide Passage d) (putDoor (putAt x h (getD (x .destination) d 0)) d freeDoor)
+  unfolding afterDecide allows effect orElse
+  after-passage h so =
+      turn x d (door granted h 0) so Green (door green h greenSpan) refl refl refl
+      (λ lit-now. turn x d (door green h greenSpan) lit-now Walk (door walked h 0) refl refl refl (passes h))
+
+-- ---- the whole service of an entry
+
+-- a service begun at a record acts and leads to another, its `decide` gives the entry's decision, but for reason 3, and who is
+-- moved is who passed
+pub record Serves (r : Record) (e : Entry) (after : Record) : Type 0 where
+  pub leads : Leads r (serviceOf e) after
+  pub decides : Reads (decideOf r e .phase) (decideOf r e .reason) (servedWith (e .decision))
+  pub moved : after .place ≡ placesBy (r .destination) (r .place) (e ∷ [])
+  pub same-doors : after .destination ≡ r .destination
+
+-- in the cleared record of r, a card of person h at door d
+module _ (r : Record) (sh : Shaped r) (s : Sound r) (d : ℕ) (hd : d < r .doors) (h : ℕ) (hh : h < r .people) where
+  abbrev x : Record
+  x = cleared r
+
+  -- nobody has a grant while the card is read
+  no-grants : (p e : ℕ) → GrantAt (r .doors) (set (zeros 64) d read) (set (zeros 64) d h) p e → ⊥
+  unfolding grants andAlso
+  no-grants p e g =
+      ⊎-elim
+      (λ is. clash (subst (λ (c : Door). grants (c .phase) ≡ true) (put-same x (clear-shaped r sh) d (door read h 0) (let most = s .tables .in-range .doors-to in omega arith)) (rw is at (g .holds))) refl)
+      (λ is-not. clash (subst (λ (c : Door). grants (c .phase) ≡ true) (put-other x d (door read h 0) e is-not ∙ clear-free (tablesOf r) (r .place) e) (g .holds)) refl)
+      (same-or-not e d)
+
+  -- so the reason there is the one of r, but for reason 3, which is none
+  reason-alone : (why : ℕ) → First r d h why → reasonFor (putDoor x d (door read h 0)) d h ≡ cond (eqb why 3) 0 why
+  reason-alone why (none a) =
+      reason-only (putDoor x d (door read h 0)) d h 0 (none (record { at-origin = a .at-origin; has-right = a .has-right; no-grant = no-grants h }))
+  reason-alone why (away a) = reason-only (putDoor x d (door read h 0)) d h 1 (away a)
+  reason-alone why (barred a b) = reason-only (putDoor x d (door read h 0)) d h 2 (barred a b)
+  reason-alone why (busy a b e g) =
+      reason-only (putDoor x d (door read h 0)) d h 0 (none (record { at-origin = a; has-right = b; no-grant = no-grants h }))
+
+  free-at : At x d freeDoor
+  free-at =
+      record { shaped = clear-shaped r sh; sound = subst Sound (sym (put-free (tablesOf r) (r .place) d)) (clear-sound r s); exists = hd }
+
+  card-turns : stepOf (putDoor x d freeDoor) Card d h ≡ turned x d (door read h 0) 0
+  unfolding allows effect
+  card-turns = turns-to x d freeDoor free-at Card h (door read h 0) 0 (λ _. hh) refl refl
+
+  read-at : At x d (door read h 0)
+  read-at = at-next x d freeDoor free-at Card h (door read h 0) 0 card-turns
+
+  -- `decide` turns the door to c
+  abbrev Decided : Door → ℕ → Type 0
+  Decided c why = stepOf (putDoor x d (door read h 0)) Decide d 0 ≡ turned x d c why
+
+  decided-yes : reasonFor (putDoor x d (door read h 0)) d h ≡ 0 → Decided (door granted h 0) 0
+  unfolding allows effect
+  decided-yes e = turns-to x d (door read h 0) read-at Decide 0 (door granted h 0) 0 (λ z. absurd (false≢true z)) refl (rw e)
+
+  decided-not : (why : ℕ) → (why ≡ 0 → ⊥) → reasonFor (putDoor x d (door read h 0)) d h ≡ why → Decided (door denied 0 0) why
+  unfolding allows effect
+  decided-not why some e = turns-to x d (door read h 0) read-at Decide 0 (door denied 0 0) why (λ z. absurd (false≢true z)) refl (rw (e, ne-eqb why 0 some))
+
+  -- the service of an entry, from what its `decide` does and what follows
+  serves : (c : Door) (why : ℕ) (decision : Decision) (ending : Ending) (place : List ℕ) → Decided c why
+      → Reads (c .phase) why (servedWith decision) → place ≡ placesBy (r .destination) (r .place) (entry d h decision ending ∷ [])
+      → (At x d c → Leads (putDoor x d c) (afterDecide (servedAs decision ending) d) (putDoor (clear (tablesOf r) place) d freeDoor))
+      → Serves x (entry d h decision ending) (clear (tablesOf r) place)
+  unfolding serviceOf
+  serves c why decision ending place decided told moved on =
+      let card : stepOf x Card d h ≡ turned x d (door read h 0) 0 = rw (put-free (tablesOf r) (r .place) d) at card-turns in
+      record {
+        leads =
+            leads-then x (cardOf (entry d h decision ending)) (turned x d (door read h 0) 0) card refl
+            (leads-then (putDoor x d (door read h 0)) (stepAt Decide d) (turned x d c why) decided refl
+            (rw (put-free (tablesOf r) place d) at (on (at-next x d (door read h 0) read-at Decide 0 c why decided))));
+        decides = rw (card, decided) told;
+        moved = moved;
+        same-doors = refl;
+      }
+
+  -- a refused card is served, and nothing is altered
+  pub serves-refusal : (why : ℕ) → (why ≡ 0 → ⊥) → First r d h why → Serves x (entry d h (Denied why) Refusal) x
+  unfolding servedWith servedAs isBusy placesBy isPassage
+  serves-refusal why some (none a) = absurd (some refl)
+  serves-refusal why some (away a) =
+      serves (door denied 0 0) 1 (Denied 1) Refusal (r .place) (decided-not 1 some (reason-alone 1 (away a))) (denying refl) refl (after-denial x d)
+  serves-refusal why some (barred a b) =
+      serves (door denied 0 0) 2 (Denied 2) Refusal (r .place) (decided-not 2 some (reason-alone 2 (barred a b))) (denying refl) refl (after-denial x d)
+  -- with reason 3 it is granted, and lapses unused
+  serves-refusal why some (busy a b e g) =
+      serves (door granted h 0) 0 (Denied 3) Refusal (r .place) (decided-yes (reason-alone 3 (busy a b e g))) (granting refl refl) refl (after-lapse x d h)
+
+  -- a grant that the door holds in r is granted, and lapses ..
+  pub serves-lapse : First r d h 3 → Serves x (entry d h Granted Lapse) x
+  unfolding servedWith servedAs isBusy placesBy isPassage
+  serves-lapse first = serves (door granted h 0) 0 Granted Lapse (r .place) (decided-yes (reason-alone 3 first)) (granting refl refl) refl (after-lapse x d h)
+
+  -- .. or is used, and the person is in the door's destination
+  pub serves-passage : First r d h 3 → Serves x (entry d h Granted Passage) (clear (tablesOf r) (set (r .place) h (getD (r .destination) d 0)))
+  unfolding servedWith servedAs isBusy placesBy isPassage
+  serves-passage first =
+      serves (door granted h 0) 0 Granted Passage (set (r .place) h (getD (r .destination) d 0)) (decided-yes (reason-alone 3 first)) (granting refl refl) refl (after-passage x d h)

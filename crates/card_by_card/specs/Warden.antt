@@ -1,0 +1,55 @@
+-- Two things that follow from demand 3, in words that a warden can use.
+use Prim.Native.Nat.{ℕ, _<_}
+use mathlib.Core.Path.{_≡_}
+use mathlib.Core.Bool.{Bool, true, false, cond}
+use mathlib.Core.List.{List, [], _∷_, _++_}
+use mathlib.Core.Logic.{_⊎_}
+use lib.ListN.{getD, set}
+use Rattle.record.specs.declared.record.Record.{Record}
+use Rattle.phases.specs.declared.table.Kind.the-variants.{Card, Decide}
+use Rattle.record.specs.Run.{lastOf}
+use Rattle.phases.specs.Kinds.{StepRow}
+use Rattle.card_by_card.specs.Serving.{Ending, Refusal, Passage, Lapse, Entry, recordedIn, services}
+
+unfoldable pub isPassage : Ending → Bool
+isPassage Refusal = false
+isPassage Passage = true
+isPassage Lapse = false
+
+-- everyone's places after these entries: each recorded passage puts its person in its door's destination, and nothing else
+-- moves anybody
+unfoldable pub placesBy : List ℕ → List ℕ → List Entry → List ℕ
+placesBy destination place [] = place
+placesBy destination place (e ∷ es) =
+    placesBy destination (cond (isPassage (e .ending)) (set place (e .person) (getD destination (e .at) 0)) place) es
+
+-- no entry is a passage of person p
+pub data NoPassage (p : ℕ) : List Entry → Type 0 where
+  end : NoPassage p []
+  then : {e : Entry} {es : List Entry} → (e .ending ≡ Passage → e .person ≡ p → ⊥) → NoPassage p es → NoPassage p (e ∷ es)
+
+-- person p, who stood in `start`, stands there still if the entries have no passage of p, and else in the destination of the
+-- door of the last one
+pub data StandsBy (destination : List ℕ) (p start : ℕ) (entries : List Entry) : ℕ → Type 0 where
+  never : NoPassage p entries → StandsBy destination p start entries start
+  last : (before after : List Entry) (e : Entry) → entries ≡ before ++ (e ∷ after) → e .ending ≡ Passage → e .person ≡ p → NoPassage p after
+      → StandsBy destination p start entries (getD destination (e .at) 0)
+
+-- "No order or lateness of messages puts a person where no recorded passage put them": whatever the list of steps, ..
+pub record PutByPassages (fresh : Record) (rows : List StepRow) : Type 0 where
+  -- .. everyone is where the recorded passages alone put them, in their order, ..
+  pub places : lastOf fresh rows .place ≡ placesBy (fresh .destination) (fresh .place) (recordedIn fresh rows)
+  -- .. so each person stands where their last recorded passage leads, and outside where there is none
+  pub each : (p : ℕ) → p < fresh .people → StandsBy (fresh .destination) p 0 (recordedIn fresh rows) (getD (lastOf fresh rows .place) p 0)
+
+-- "A refused card moves nobody":
+pub record RefusedMovesNobody (fresh : Record) (rows : List StepRow) : Type 0 where
+  -- wherever in the list a `decide` stands, or a `card`, everyone is in the same place before and after it;
+  pub in-the-run : (before after : List StepRow) (row : StepRow) → rows ≡ before ++ (row ∷ after) → (row .kind ≡ Decide) ⊎ (row .kind ≡ Card)
+      → lastOf fresh (before ++ (row ∷ [])) .place ≡ lastOf fresh before .place
+  -- the service of a refused card moves nobody;
+  pub in-the-serving : (before after : List Entry) (e : Entry) → recordedIn fresh rows ≡ before ++ (e ∷ after) → e .ending ≡ Refusal
+      → lastOf fresh (services (before ++ (e ∷ []))) .place ≡ lastOf fresh (services before) .place
+  -- and with the refused card struck from the list everyone would stand where they stand
+  pub struck-out : (before after : List Entry) (e : Entry) → recordedIn fresh rows ≡ before ++ (e ∷ after) → e .ending ≡ Refusal
+      → lastOf fresh rows .place ≡ placesBy (fresh .destination) (fresh .place) (before ++ after)

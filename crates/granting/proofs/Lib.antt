@@ -1,0 +1,2 @@
+-- `Granting`: what the search for a grant tells.
+pub mod Granting

@@ -1,0 +1,158 @@
+-- The runs of specs/Examples.antt, computed from the bytes of the sheets. The steps are computed without the test for 14, which
+-- every record of a run passes. Assumes nothing.
+use Prim.Native.Nat.{ℕ}
+use mathlib.Core.Path.{_≡_, refl, sym, ap, subst, _∙_}
+use mathlib.Core.Bool.{true, false}
+use mathlib.Core.List.{List, [], _∷_}
+use lib.ListN.{replicate, set}
+use native.Mathlib.Omega.{arith}
+use Rattle.tables.specs.Below.{orAt, leastBelow, withLocation, locationOf, leastPair, someBelow}
+use Rattle.tables.specs.Tables.{orElse, andAlso, mayBe}
+use Rattle.tables.specs.Tests.{lacksExit, firstNoExit, strays, firstStray, joins, lacksDoor, firstNoDoor, lacksRight, firstNoRight, letsIn, shutOut, firstShutOut}
+use Rattle.tables.specs.Way.{unlessOutside, wayOut, unvisited, wayOf}
+use Rattle.record.specs.declared.record.Record.{Record}
+use Rattle.record.specs.declared.steps.Step.{Step}
+use Rattle.phases.specs.Phase.{grants}
+use Rattle.record.specs.Doors.{Shaped, zeros, freshRecord}
+use Rattle.phases.specs.Kinds.{StepRow, kindOf, allows}
+use Rattle.granting.specs.Grants.{grantsTo, grantOf, hasGrant}
+use Rattle.record.specs.Sound.{Sound}
+use Rattle.door.specs.Does.{effect}
+use Rattle.granting.specs.Reasons.{firstReason}
+use Rattle.record.specs.Steps.{act, exist, soundStep}
+use Rattle.record.specs.Run.{rowOf, rowsOf, lastOf, toldOf, answerTold, phaseTold, reasonTold}
+use Rattle.record.proofs.Laws.{sound-steps, sound-stays, shaped-stays}
+use Rattle.grammar.specs.Cut.{bareMove, shutMove, moveOf, endOf, fieldFrom, pushed, rowFrom, cutRow}
+use Rattle.grammar.specs.Rows.{readRows, rowsFrom}
+use Rattle.grammar.specs.Say.{valueFrom, digitsFrom, needlessZero, numberIn, contentAt, sameBytes, isWord, saysWords, numberAt}
+use Rattle.site_sheet.specs.declared.SiteRead.{SiteRead}
+use Rattle.site_sheet.specs.Accepted.{AcceptedRecord}
+use Rattle.verdict.specs.declared.Verdict.the-variants.{Accepted, NoSite}
+use Rattle.site_sheet.specs.Draft.{unmarked, siteRowFits, takeSite, doorRowFits, takeDoor, exitRowFits, takeExit, rightRowFits, takeRight, takeLine}
+use Rattle.site_sheet.specs.Line as site
+use Rattle.site_sheet.specs.Site.{linesIn, readLines, judged, settled, afterHeader, siteOf, refusedSite}
+use Rattle.site_sheet.proofs.Theorems.{accepted-holds}
+use Rattle.run_text.specs.declared.steps.Heading.{Heading}
+use Rattle.run_text.specs.declared.steps.Heading.the-variants.{Wrong, Rows}
+use Rattle.run_text.specs.Steps.{Steps, placeAmong, kindAt, personAt, stepsLineAt, stepsHeaderAt, headingOf, stepsIn, stepsFrom, rowsIn}
+use Rattle.run_text.specs.Text.{digits, decimal, cellText, rowOfNumbers}
+use Rattle.run_text.specs.Printed.{answerRows, runText, aloneText, ranText, stepsText, panelText, placeRows, placesText, recordText, lastRecord, whereText, fitsIn, printedOf, written}
+use Rattle.run_text.proofs.Sheets.{panel-refused, where-refused, panel-is, where-is}
+use Rattle.run_text.specs.Examples.{siteHeader, siteSheet, stepsSheet, panelTop, whereTop, four, two, panelOf01, badRow, Examples}
+
+-- ---- the steps, without the test for 14
+
+unfoldable pub soundLast : Record → List StepRow → Record
+soundLast r [] = r
+soundLast r (row ∷ rows) = soundLast (soundStep r (row .kind) (row .at) (row .person) .next) rows
+
+pub sound-last : (rows : List StepRow) (r : Record) → Shaped r → Sound r → lastOf r rows ≡ soundLast r rows
+unfolding lastOf soundLast
+sound-last [] r sh s = refl
+sound-last (row ∷ rows) r sh s =
+    sound-last rows _ (shaped-stays r (row .kind) (row .at) (row .person) sh) (sound-stays r (row .kind) (row .at) (row .person) sh s)
+    ∙ ap (λ (x : Step). soundLast (x .next) rows) (sound-steps r (row .kind) (row .at) (row .person) sh s)
+
+soundTold : (Step → ℕ) → Record → List StepRow → List ℕ
+soundTold tell r [] = []
+soundTold tell r (row ∷ rows) =
+    let s = soundStep r (row .kind) (row .at) (row .person) in
+    tell s ∷ soundTold tell (s .next) rows
+
+sound-told : (tell : Step → ℕ) (rows : List StepRow) (r : Record) → Shaped r → Sound r → toldOf tell r rows ≡ soundTold tell r rows
+unfolding toldOf soundTold
+sound-told tell [] r sh s = refl
+sound-told tell (row ∷ rows) r sh s =
+    ap (λ (l : List ℕ). tell (rowOf r row) ∷ l)
+    (sound-told tell rows _ (shaped-stays r (row .kind) (row .at) (row .person) sh) (sound-stays r (row .kind) (row .at) (row .person) sh s))
+    ∙ ap (λ (x : Step). tell x ∷ soundTold tell (x .next) rows) (sound-steps r (row .kind) (row .at) (row .person) sh s)
+
+-- ---- what the sheets are read into
+
+-- the fresh record of 01's site
+abbrev pub site-of-01 : Record
+site-of-01 =
+    freshRecord 2 3 4 (0 ∷ 1 ∷ 2 ∷ 1 ∷ replicate 60 0) (1 ∷ 2 ∷ 1 ∷ 0 ∷ replicate 60 0) (0 ∷ 0 ∷ 1 ∷ replicate 29 0)
+    (set (set (set (replicate 2048 false) 1 true) 2 true) 33 true)
+
+sites : (siteOf siteSheet ≡ record { verdict = Accepted; «record» = site-of-01 }) × (siteOf siteHeader ≡ refusedSite NoSite)
+unfolding bareMove shutMove moveOf endOf fieldFrom pushed rowFrom cutRow readRows rowsFrom valueFrom digitsFrom needlessZero numberIn contentAt sameBytes isWord saysWords numberAt orAt leastBelow withLocation locationOf leastPair someBelow orElse andAlso mayBe lacksExit firstNoExit strays firstStray joins lacksDoor firstNoDoor lacksRight firstNoRight letsIn shutOut firstShutOut unlessOutside wayOut unvisited wayOf unmarked siteRowFits takeSite doorRowFits takeDoor exitRowFits takeExit rightRowFits takeRight takeLine site.wordOf site.siteLineAt site.siteHeaderAt linesIn readLines judged settled afterHeader siteOf zeros
+sites = (refl, refl)
+
+stepsOf01 : Steps
+stepsOf01 =
+    record {
+      kinds = 0 ∷ 1 ∷ 2 ∷ 4 ∷ 0 ∷ 1 ∷ 6 ∷ 3 ∷ 1 ∷ 0 ∷ [];
+      doors = 0 ∷ 0 ∷ 0 ∷ 0 ∷ 1 ∷ 1 ∷ 0 ∷ 1 ∷ 0 ∷ 9 ∷ [];
+      persons = 0 ∷ 0 ∷ 0 ∷ 0 ∷ 0 ∷ 0 ∷ 0 ∷ 0 ∷ 0 ∷ 0 ∷ [];
+      whole = true;
+    }
+
+headings : (headingOf stepsSheet ≡ Rows 18) × (headingOf badRow ≡ Rows 18) × (headingOf [] ≡ Wrong)
+unfolding bareMove shutMove moveOf endOf pushed rowFrom cutRow contentAt sameBytes isWord saysWords stepsHeaderAt headingOf
+headings = (refl, refl, refl)
+
+steps : (stepsFrom stepsSheet 18 ≡ stepsOf01) × (stepsFrom badRow 18 ≡ record { kinds = 0 ∷ []; doors = 0 ∷ []; persons = 0 ∷ []; whole = false })
+unfolding bareMove shutMove moveOf endOf pushed rowFrom cutRow readRows rowsFrom valueFrom digitsFrom needlessZero numberIn contentAt sameBytes isWord numberAt placeAmong kindAt personAt stepsLineAt stepsIn stepsOf01
+steps = (refl, refl)
+
+-- ---- the steps, run
+
+accepted : AcceptedRecord siteSheet
+accepted = accepted-holds siteSheet (ap (λ (x : SiteRead). x .verdict) (sites .0))
+
+shaped : Shaped site-of-01
+shaped = subst (λ (x : SiteRead). Shaped (x .«record»)) (sites .0) (accepted .shaped)
+
+sound : Sound site-of-01
+sound = subst (λ (x : SiteRead). Sound (x .«record»)) (sites .0) (accepted .sound)
+
+panel-here : (s : List ℕ) {h : Heading} → headingOf s ≡ h → panelText siteSheet s ≡ stepsText site-of-01 s h
+panel-here s e = sym (panel-is siteSheet s (sym (sites .0)) refl refl e)
+
+where-here : (s : List ℕ) {h : Heading} → headingOf s ≡ h → whereText siteSheet s ≡ recordText (lastRecord site-of-01 s h)
+where-here s e = sym (where-is siteSheet s (sym (sites .0)) refl refl e)
+
+-- the text of a run, its steps computed
+soundRan : Steps → List ℕ
+soundRan x =
+    runText (soundTold answerTold site-of-01 (rowsIn x)) (soundTold phaseTold site-of-01 (rowsIn x)) (soundTold reasonTold site-of-01 (rowsIn x)) (x .whole)
+
+sound-ran : (x : Steps) → ranText site-of-01 x ≡ soundRan x
+unfolding soundRan
+sound-ran x = rw (sound-told answerTold (rowsIn x) site-of-01 shaped sound, sound-told phaseTold (rowsIn x) site-of-01 shaped sound, sound-told reasonTold (rowsIn x) site-of-01 shaped sound)
+
+panel-ran : (s : List ℕ) {x : Steps} → headingOf s ≡ Rows 18 → stepsFrom s 18 ≡ x → panelText siteSheet s ≡ soundRan x
+panel-ran s e f = panel-here s e ∙ ap (ranText site-of-01) f ∙ sound-ran _
+
+texts : (soundRan stepsOf01 ≡ panelOf01)
+    × (soundRan (record { kinds = 0 ∷ []; doors = 0 ∷ []; persons = 0 ∷ []; whole = false }) ≡ panelTop (four 1 0 1 0 (four 2 2 0 0 [])))
+    × (recordText (soundLast site-of-01 (rowsIn stepsOf01)) ≡ whereTop (two 0 1 (two 1 0 [])))
+unfolding soundRan soundTold soundLast stepsOf01 soundStep firstReason effect act exist allows hasGrant grantOf leastBelow orAt grantsTo grants mayBe andAlso orElse zeros rowsOf kindOf runText answerRows placeRows placesText rowOfNumbers cellText decimal digits
+texts = (refl, refl, refl)
+
+alone : (aloneText 2 ≡ panelTop (four 0 2 0 0 [])) × (aloneText 5 ≡ panelTop (four 0 5 0 0 [])) × (placesText [] ≡ whereTop []) × (recordText site-of-01 ≡ whereTop (two 0 0 (two 1 0 [])))
+unfolding aloneText placeRows placesText rowOfNumbers cellText decimal digits zeros
+alone = (refl, refl, refl, refl)
+
+refused : _≡_ {A = ℕ} 5 0 → ⊥
+refused e = omega arith
+
+pub examples : Examples
+unfolding fitsIn printedOf written
+examples =
+    record {
+      panel-of-01 = panel-ran stepsSheet (headings .0) (steps .0) ∙ texts .0;
+      where-of-01 =
+          where-here stepsSheet (headings .0) ∙ ap (λ (x : Steps). recordText (lastOf site-of-01 (rowsIn x))) (steps .0)
+          ∙ ap recordText (sound-last (rowsIn stepsOf01) site-of-01 shaped sound) ∙ texts .2;
+      bad-row = panel-ran badRow (headings .1) (steps .1) ∙ texts .1;
+      wrong-header = panel-here [] (headings .2) ∙ alone .0;
+      wrong-header-where = where-here [] (headings .2) ∙ alone .3;
+      refused-site = sym (panel-refused siteHeader [] (sym (sites .1)) refl refused) ∙ alone .1;
+      refused-site-where = sym (where-refused siteHeader [] (sym (sites .1)) refl refused) ∙ alone .2;
+      in-a-longer = (refl, refl);
+      in-its-own = (refl, refl);
+      in-a-shorter = (refl, refl);
+      numbers = (refl, refl);
+    }

@@ -1,0 +1,99 @@
+-- The two texts by what the two sheets are: a refused site, a long or wrongly headed steps sheet, a run. Assumes nothing.
+use Prim.Native.Nat.{ℕ, _≤_, _<_}
+use mathlib.Core.Path.{_≡_, refl, sym, ap, subst, _∙_}
+use mathlib.Core.Bool.{Bool, true, false, cond}
+use mathlib.Core.List.{List, []}
+use native.Mathlib.Omega.{arith}
+use borrow.Author.Tests.{ne-eqb, lt-ltb, ltb-true, ltb-false}
+use lib.Dec.{ltb}
+use lib.ListN.{length}
+use Rattle.grammar.specs.Cut.{cutRow}
+use Rattle.tables.specs.Tables.{mostPeople}
+use Rattle.record.specs.Doors.{Tables}
+use Rattle.record.specs.Run.{lastOf}
+use Rattle.phases.specs.Kinds.{StepRow}
+use Rattle.record.specs.SoundTest.{soundB}
+use Rattle.record.proofs.Tells.{sound-tells}
+use Rattle.record.proofs.Laws.{run-tables}
+use Rattle.site_sheet.specs.declared.SiteRead.{SiteRead}
+use Rattle.verdict.specs.declared.Verdict.{Verdict}
+use Rattle.verdict.specs.declared.Verdict.the-variants.{Accepted, TooLong, BadRow, OutOfRange, Twice, NoSite, NoExit, Stray, NoDoor, NoRight, ShutOut}
+use Rattle.site_sheet.specs.Site.{siteOf, verdictNo}
+use Rattle.grammar.specs.Sizes.{limit}
+use Rattle.site_sheet.specs.Accepted.{AcceptedRecord}
+use Rattle.site_sheet.proofs.Theorems.{accepted-holds}
+use Rattle.run_text.specs.declared.steps.Heading.{Heading}
+use Rattle.run_text.specs.declared.steps.Heading.the-variants as heading
+use Rattle.run_text.specs.declared.text.Printed.{Printed}
+use Rattle.run_text.specs.Steps.{headed, headingOf}
+use Rattle.run_text.specs.Printed.{aloneText, stepsText, panelText, recordText, lastRecord, placesText, whereText, printedOf, written}
+
+-- only an accepted sheet has the number 0
+pub zero-accepted : (v : Verdict) → verdictNo v ≡ 0 → v ≡ Accepted
+zero-accepted Accepted e = refl
+zero-accepted TooLong e = absurd (omega arith)
+zero-accepted (BadRow n) e = absurd (omega arith)
+zero-accepted (OutOfRange n) e = absurd (omega arith)
+zero-accepted (Twice n) e = absurd (omega arith)
+zero-accepted NoSite e = absurd (omega arith)
+zero-accepted (NoExit l) e = absurd (omega arith)
+zero-accepted (Stray l) e = absurd (omega arith)
+zero-accepted (NoDoor l) e = absurd (omega arith)
+zero-accepted (NoRight p l) e = absurd (omega arith)
+zero-accepted (ShutOut p) e = absurd (omega arith)
+
+-- a steps sheet over the limit is told to be too long
+pub long-told : (s : List ℕ) → limit < length s → headingOf s ≡ heading.TooLong
+unfolding headingOf
+long-told s h = ap (λ (b : Bool). cond b heading.TooLong (headed s (cutRow s 0))) (lt-ltb limit (length s) h)
+
+-- a sheet with a header behind which rows begin isn't too long
+pub headed-short : (s : List ℕ) {from : ℕ} → headingOf s ≡ heading.Rows from → length s ≤ limit
+headed-short s {from} e = go (ltb limit (length s)) refl
+  where
+    go : (q : Bool) → ltb limit (length s) ≡ q → length s ≤ limit
+    go true q = let z : heading.TooLong ≡ heading.Rows from = sym (long-told s (ltb-true limit (length s) q)) ∙ e in let n : _≡_ {A = ℕ} 0 1 = cc in absurd (omega arith)
+    go false q = ltb-false limit (length s) q
+
+-- the same text, said otherwise
+pub text-is : (text other out : List ℕ) {p : Printed} {after : List ℕ} → text ≡ other → (p ≡ printedOf text out) × (after ≡ written text out)
+    → (p ≡ printedOf other out) × (after ≡ written other out)
+text-is text other out {p} {after} e h = subst (λ (t : List ℕ). (p ≡ printedOf t out) × (after ≡ written t out)) e h
+
+module _ (site steps : List ℕ) {read : SiteRead} {n : ℕ} (is : read ≡ siteOf site) (number : n ≡ verdictNo (read .verdict)) where
+  number-is : verdictNo (siteOf site .verdict) ≡ n
+  number-is = ap (λ (x : SiteRead). verdictNo (x .verdict)) (sym is) ∙ sym number
+
+  pub panel-refused : (n ≡ 0 → ⊥) → aloneText n ≡ panelText site steps
+  unfolding panelText
+  panel-refused other = rw (number-is, ne-eqb _ _ other)
+
+  pub where-refused : (n ≡ 0 → ⊥) → placesText [] ≡ whereText site steps
+  unfolding whereText
+  where-refused other = rw (number-is, ne-eqb _ _ other)
+
+  module _ (zero : n ≡ 0) where
+    accepted : AcceptedRecord site
+    accepted = accepted-holds site (zero-accepted (siteOf site .verdict) (number-is ∙ zero))
+
+    pub fresh-sound : soundB (read .«record») ≡ true
+    fresh-sound = rw is (sound-tells (siteOf site .«record») (accepted .shaped) .back (accepted .sound))
+
+    fresh-people : read .«record» .people ≤ mostPeople
+    fresh-people = rw is (accepted .sound .tables .in-range .people-to)
+
+    last-people : (rows : List StepRow) → lastOf (read .«record») rows .people ≤ mostPeople
+    last-people rows = rw (ap (λ (t : Tables). t .people) (run-tables (read .«record») rows)) fresh-people
+
+    pub last-few : (h : Heading) → lastRecord (read .«record») steps h .people ≤ mostPeople
+    last-few heading.TooLong = fresh-people
+    last-few heading.Wrong = fresh-people
+    last-few (heading.Rows from) = last-people _
+
+    pub panel-is : {h : Heading} → headingOf steps ≡ h → stepsText (read .«record») steps h ≡ panelText site steps
+    unfolding panelText
+    panel-is e = rw (number-is, zero, e, is)
+
+    pub where-is : {h : Heading} → headingOf steps ≡ h → recordText (lastRecord (read .«record») steps h) ≡ whereText site steps
+    unfolding whereText
+    where-is e = rw (number-is, zero, e, is)

@@ -1,0 +1,116 @@
+-- The two texts: what `panel` prints and what `where` prints. 01, "Program and one whole run".
+use Prim.Native.Nat.{ℕ, _+_}
+use mathlib.Core.Bool.{Bool, true, false, cond}
+use mathlib.Core.List.{List, [], _∷_, _++_}
+use lib.ListN.{length, take}
+use lib.Seq.{sets}
+use lib.Dec.{leb, eqb}
+use Rattle.record.specs.declared.record.Record.{Record}
+use Rattle.record.specs.Run.{lastOf, toldOf, answerTold, phaseTold, reasonTold}
+use Rattle.site_sheet.specs.declared.SiteRead.{SiteRead}
+use Rattle.site_sheet.specs.Site.{siteOf, verdictNo}
+use Rattle.run_text.specs.declared.steps.Heading.{Heading}
+use Rattle.run_text.specs.declared.steps.Heading.the-variants.{TooLong, Wrong, Rows}
+use Rattle.run_text.specs.declared.serve.Served.{Served}
+use Rattle.run_text.specs.declared.text.Printed.{Printed}
+use Rattle.run_text.specs.declared.text.Printed.the-variants.{Text, TooShort}
+use Rattle.run_text.specs.Steps.{Steps, headingOf, stepsFrom, rowsIn}
+use Rattle.run_text.specs.Text.{rowOfNumbers}
+
+-- "the header `row,answer,phase,reason`"
+abbrev pub panelHeader : List ℕ
+panelHeader = 114 ∷ 111 ∷ 119 ∷ 44 ∷ 97 ∷ 110 ∷ 115 ∷ 119 ∷ 101 ∷ 114 ∷ 44 ∷ 112 ∷ 104 ∷ 97 ∷ 115 ∷ 101 ∷ 44 ∷ 114 ∷ 101 ∷ 97 ∷ 115 ∷ 111 ∷ 110 ∷ 13 ∷ 10 ∷ []
+
+-- "header `person,location`"
+abbrev pub whereHeader : List ℕ
+whereHeader = 112 ∷ 101 ∷ 114 ∷ 115 ∷ 111 ∷ 110 ∷ 44 ∷ 108 ∷ 111 ∷ 99 ∷ 97 ∷ 116 ∷ 105 ∷ 111 ∷ 110 ∷ 13 ∷ 10 ∷ []
+
+-- a row of what `panel` prints
+abbrev pub panelRow : ℕ → ℕ → ℕ → ℕ → List ℕ
+panelRow n answer phase reason = rowOfNumbers n (answer ∷ phase ∷ reason ∷ [])
+
+-- "a row for each data row", from row n on: its number, its answer, its phase and its reason
+unfoldable pub answerRows : ℕ → List ℕ → List ℕ → List ℕ → List ℕ
+answerRows n [] phases reasons = []
+answerRows n (a ∷ answers) [] reasons = []
+answerRows n (a ∷ answers) (p ∷ phases) [] = []
+answerRows n (a ∷ answers) (p ∷ phases) (r ∷ reasons) = panelRow n a p r ++ answerRows (n + 1) answers phases reasons
+
+-- "A row of form 2 is printed `row,2,0,0` and ends the run."
+abbrev pub lastRow : Bool → ℕ → List ℕ
+lastRow true n = []
+lastRow false n = panelRow n 2 0 0
+
+-- the text of a run: its answers, and the row of bad form that ended it, if one did
+unfoldable pub runText : List ℕ → List ℕ → List ℕ → Bool → List ℕ
+runText answers phases reasons whole = panelHeader ++ (answerRows 1 answers phases reasons ++ lastRow whole (length answers + 1))
+
+-- "each stands alone after the header"
+unfoldable pub aloneText : ℕ → List ℕ
+aloneText number = panelHeader ++ panelRow 0 number 0 0
+
+-- the record after the steps of a sheet, how many there were, and whether the sheet ends behind them
+abbrev pub servedOf : Record → Steps → Served
+servedOf r steps = record { next = lastOf r (rowsIn steps); count = length (steps .kinds); whole = steps .whole }
+
+-- the steps of a sheet, run from a record and printed
+abbrev pub ranText : Record → Steps → List ℕ
+ranText r steps =
+    runText (toldOf answerTold r (rowsIn steps)) (toldOf phaseTold r (rowsIn steps)) (toldOf reasonTold r (rowsIn steps)) (steps .whole)
+
+-- "A wrong header is `0,2,0,0`, a long steps sheet `0,1,0,0`"
+abbrev pub stepsText : Record → List ℕ → Heading → List ℕ
+stepsText r steps TooLong = aloneText 1
+stepsText r steps Wrong = aloneText 2
+stepsText r steps (Rows from) = ranText r (stepsFrom steps from)
+
+-- "and a refused site sheet `0,N,0,0` with its number; .. the site's before the steps'"
+abbrev pub siteText : SiteRead → List ℕ → List ℕ
+siteText read steps =
+    cond (eqb (verdictNo (read .verdict)) 0) (stepsText (read .«record») steps (headingOf steps)) (aloneText (verdictNo (read .verdict)))
+
+-- What `panel` prints.
+unfoldable pub panelText : List ℕ → List ℕ → List ℕ
+panelText site steps = siteText (siteOf site) steps
+
+-- "each person after the run", from person n on
+unfoldable pub placeRows : ℕ → List ℕ → List ℕ
+placeRows n [] = []
+placeRows n (l ∷ places) = rowOfNumbers n (l ∷ []) ++ placeRows (n + 1) places
+
+unfoldable pub placesText : List ℕ → List ℕ
+placesText places = whereHeader ++ placeRows 0 places
+
+-- the people of the site, each where the record has them
+abbrev pub recordText : Record → List ℕ
+recordText r = placesText (take (r .people) (r .place))
+
+-- "with a long or wrongly headed steps sheet everyone is at 0": the fresh record
+abbrev pub lastRecord : Record → List ℕ → Heading → Record
+lastRecord r steps TooLong = r
+lastRecord r steps Wrong = r
+lastRecord r steps (Rows from) = lastOf r (rowsIn (stepsFrom steps from))
+
+-- "with a refused site sheet it prints only the header"
+abbrev pub siteWhere : SiteRead → List ℕ → List ℕ
+siteWhere read steps =
+    cond (eqb (verdictNo (read .verdict)) 0) (recordText (lastRecord (read .«record») steps (headingOf steps))) (placesText [])
+
+-- What `where` prints.
+unfoldable pub whereText : List ℕ → List ℕ → List ℕ
+whereText site steps = siteWhere (siteOf site) steps
+
+-- A text in a lent list: told by its length, and standing at the list's front with the rest unaltered; 13 where the list is
+-- shorter than the text, with nothing written.
+unfoldable pub fitsIn : List ℕ → List ℕ → Bool
+fitsIn text out = leb (length text) (length out)
+
+unfoldable pub printedOf : List ℕ → List ℕ → Printed
+printedOf text out = cond (fitsIn text out) (Text (length text)) TooShort
+
+unfoldable pub written : List ℕ → List ℕ → List ℕ
+written text out = cond (fitsIn text out) (sets out 0 text) out
+
+abbrev pub printedNo : Printed → ℕ
+printedNo (Text n) = 0
+printedNo TooShort = 13

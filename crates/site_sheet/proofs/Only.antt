@@ -1,0 +1,230 @@
+-- What the rules give of a sheet is what is said of it: no sheet has two answers.
+-- Assumes nothing.
+use Prim.Native.Nat.{ℕ, _+_, _-_, _≤_}
+use native.Mathlib.Omega.{arith}
+use mathlib.Core.Path.{_≡_, refl, sym, ap, _∙_}
+use mathlib.Core.Bool.{true, false}
+use mathlib.Core.List.{List, []}
+use lib.ListN.{length, getD}
+use borrow.Author.Tests.{lt-ltb, le-ltb, ne-eqb}
+use Rattle.tables.specs.Below.{Smallest, SmallestPair, Answers}
+use Rattle.tables.specs.Way.{LeadsOut}
+use Rattle.tables.specs.Rules.{DoorFrom, FirstLocation}
+use Rattle.tables.specs.declared.Found.the-variants as found
+use Rattle.tables.specs.declared.RightFound.the-variants as pair
+use Rattle.tables.specs.Tests.{firstNoExit, firstStray, firstNoDoor, firstNoRight}
+use Rattle.tables.proofs.Answers.{rule-6, rule-7, rule-8, rule-9, rule-10}
+use Rattle.tables.proofs.Cases.{either}
+use Rattle.grammar.specs.declared.cut.RowCut.{RowCut}
+use Rattle.grammar.specs.declared.cut.RowCut.the-variants.{Cut, NoRow, Broken}
+use Rattle.grammar.specs.Cut.{noCells, cutRow}
+use Rattle.grammar.specs.Where.{cellsOf}
+use Rattle.grammar.specs.Rows.{rowsFrom}
+use Rattle.grammar.specs.Grammar.{Row, RowAt}
+use Rattle.grammar.proofs.Unique.{row-unique}
+use Rattle.grammar.proofs.Exact.{row-is-cut, cut-is-row}
+use Rattle.site_sheet.specs.declared.SiteLine.{SiteLine}
+use Rattle.site_sheet.specs.declared.SiteLine.the-variants.{Site, Door, Exit, Right, Bad}
+use Rattle.site_sheet.specs.declared.Draft.{Draft}
+use Rattle.site_sheet.specs.declared.Fault.{Fault}
+use Rattle.verdict.specs.declared.Verdict.{Verdict}
+use Rattle.verdict.specs.declared.Verdict.the-variants.{Accepted, BadRow, NoExit, Stray, NoDoor, NoRight, ShutOut}
+use Rattle.site_sheet.specs.declared.SiteRead.{SiteRead}
+use Rattle.site_sheet.specs.Line.{siteHeaderAt}
+use Rattle.site_sheet.specs.Draft.{blankDraft}
+use Rattle.site_sheet.specs.Site.{verdictOf, linesIn, readLines, acceptedSite, judged, settled, afterHeader, siteOf}
+use Rattle.grammar.specs.Sizes.{limit}
+use Rattle.site_sheet.specs.Says.{HeaderRow, LineInRange, site-range, door-range, exit-range, right-range, NotFirst, door-first, exit-first, right-first, Fine, Wrong, of-form, no-site, out-of-range, said-again}
+use Rattle.site_sheet.specs.Gives.{Headed, FineLines, one-fine, WrongAt, here, further, draftAfter, Tabled, Six, Seven, Eight, ExitRight, Nine, Ten, Obeys, Gives, gives-0, gives-1, gives-header, gives-row, gives-5, gives-6, gives-7, gives-8, gives-9, gives-10}
+use Rattle.site_sheet.proofs.Held.{Held, Ranged, held-blank}
+use Rattle.site_sheet.proofs.Outcome.{fine}
+use Rattle.site_sheet.proofs.Rows.{headerFrom, header-same, header-is, is-header-row}
+use Rattle.site_sheet.proofs.Text.{text-says, text-unique}
+use Rattle.site_sheet.proofs.Verdicts.{ReadOf, all, stopped, read-of}
+
+-- ---- one thing is wrong with a line, or nothing
+
+abbrev Good : SiteLine → Type 0
+Good (Site p l) = Unit {0}
+Good (Door o t) = Unit {0}
+Good (Exit l m) = Unit {0}
+Good (Right p l) = Unit {0}
+Good Bad = ⊥
+
+range-good : {before : List SiteLine} {line : SiteLine} → LineInRange before line → Good line
+range-good (site-range a b c d) = tt
+range-good (door-range a b c d) = tt
+range-good (exit-range a b c) = tt
+range-good (right-range a b c) = tt
+
+first-good : {line : SiteLine} → NotFirst line → Good line
+first-good door-first = tt
+first-good exit-first = tt
+first-good right-first = tt
+
+wrong-unique : {before : List SiteLine} {line : SiteLine} {f g : Fault} → Wrong before line f → Wrong before line g → f ≡ g
+wrong-unique of-form of-form = refl
+wrong-unique of-form (no-site e n) = absurd (first-good n)
+wrong-unique of-form (out-of-range n s r) = absurd (n refl)
+wrong-unique of-form (said-again s r a) = absurd (range-good r)
+wrong-unique (no-site e n) of-form = absurd (first-good n)
+wrong-unique (no-site e n) (no-site e′ n′) = refl
+wrong-unique (no-site e n) (out-of-range m s r) = absurd (s e n)
+wrong-unique (no-site e n) (said-again s r a) = absurd (s e n)
+wrong-unique (out-of-range n s r) of-form = absurd (n refl)
+wrong-unique (out-of-range n s r) (no-site e m) = absurd (s e m)
+wrong-unique (out-of-range n s r) (out-of-range n′ s′ r′) = refl
+wrong-unique (out-of-range n s r) (said-again s′ r′ a) = absurd (r r′)
+wrong-unique (said-again s r a) of-form = absurd (range-good r)
+wrong-unique (said-again s r a) (no-site e n) = absurd (s e n)
+wrong-unique (said-again s r a) (out-of-range n s′ r′) = absurd (r′ r)
+wrong-unique (said-again s r a) (said-again s′ r′ a′) = refl
+
+fine-not-wrong : {before : List SiteLine} {line : SiteLine} {f : Fault} → Fine before line → Wrong before line f → ⊥
+fine-not-wrong x of-form = range-good (x .in-range)
+fine-not-wrong x (no-site e n) = x .started e n
+fine-not-wrong x (out-of-range n s r) = r (x .in-range)
+fine-not-wrong x (said-again s r a) = x .new a
+
+-- ---- and so one row is the first with which something is wrong, or none
+
+record OneFault (k j : ℕ) (f g : Fault) : Type 0 where
+  place : k ≡ j
+  fault : f ≡ g
+
+wrong-once : {before lines : List SiteLine} {k j : ℕ} {f g : Fault} → WrongAt before lines k f → WrongAt before lines j g → OneFault k j f g
+wrong-once (here w) (here v) = record { place = refl; fault = wrong-unique w v }
+wrong-once (here w) (further x v) = absurd (fine-not-wrong x w)
+wrong-once (further x w) (here v) = absurd (fine-not-wrong x v)
+wrong-once (further x w) (further y v) = let o = wrong-once w v in record { place = ap (λ (n : ℕ). n + 1) (o .place); fault = o .fault }
+
+all-not-wrong : {before lines : List SiteLine} {k : ℕ} {f : Fault} → FineLines before lines → WrongAt before lines k f → ⊥
+all-not-wrong (one-fine x a) (here w) = fine-not-wrong x w
+all-not-wrong (one-fine x a) (further y w) = all-not-wrong a w
+
+-- ---- the whole sheet
+
+module _ (s : List ℕ) where
+  pub headed-reads : {lines : List SiteLine} → Headed s lines → siteOf s ≡ settled (readLines blankDraft 1 lines)
+  unfolding siteOf afterHeader
+  headed-reads {lines} h =
+      let e = row-is-cut s 0 (h .at) in
+      let c = cut-is-row s 0 e in
+      let q : siteHeaderAt s (cellsOf noCells 0 (h .header)) ≡ true = header-same s (c .row) (c .holds) ∙ ap headerFrom (row-unique (c .there) (h .at) refl .first) ∙ is-header-row (h .header) (h .is) in
+      let l : linesIn s (rowsFrom s (length s - length (h .rest))) ≡ lines = text-unique (text-says s (length s - length (h .rest))) (h .says) (c .behind ∙ row-unique (c .there) (h .at) refl .behind) in
+      rw (le-ltb limit (length s) (h .short), e, q, l)
+
+  row-given : {lines : List SiteLine} {k : ℕ} {f : Fault} → ReadOf [] lines 1 blankDraft (readLines blankDraft 1 lines) → WrongAt [] lines k f
+      → settled (readLines blankDraft 1 lines) .verdict ≡ verdictOf f (k + 1)
+  unfolding settled
+  row-given (all a e d h) w = absurd (all-not-wrong a w)
+  row-given {k = k} {f = f} (stopped j g v e n q) w =
+      let o = wrong-once v w in
+      let m : 1 + j ≡ k + 1 = let p = o .place in omega arith in
+      rw (e, q, n, m, o .fault)
+
+  tabled-given : {d : Draft} → Tabled s d → siteOf s ≡ judged d
+  unfolding settled
+  tabled-given {d} t = headed-reads (t .headed) ∙ go (read-of (t .lines) [] 1 blankDraft held-blank)
+    where
+      go : ReadOf [] (t .lines) 1 blankDraft (readLines blankDraft 1 (t .lines)) → settled (readLines blankDraft 1 (t .lines)) ≡ judged d
+      go (all a e q h) =
+          let b = h .begun (t .some) in
+          let z : draftAfter blankDraft (t .lines) .locations ≡ 0 → ⊥ = λ y. omega arith in
+          rw (e, q, ne-eqb _ 0 z, t .tables)
+      go (stopped k f w e n q) = absurd (all-not-wrong (t .fine) w)
+
+  header-given : (cut : RowCut) → cutRow s 0 ≡ cut → ((r : Row) (rest : List ℕ) → RowAt s r rest → HeaderRow r → ⊥) → afterHeader s cut .verdict ≡ BadRow 0
+  unfolding afterHeader
+  header-given (Cut cells next) e n =
+      let c = cut-is-row s 0 e in
+      either (λ (x : SiteRead). x .verdict ≡ BadRow 0) (siteHeaderAt s cells)
+      (λ y. absurd (n (c .row) (c .rest) (c .there) (header-is (c .row) (sym (header-same s (c .row) (c .holds)) ∙ y)))) (λ y. refl)
+  header-given NoRow e n = refl
+  header-given (Broken byte) e n = refl
+
+  module _ {d : Draft} (t : Tabled s d) (r : Ranged d) where
+    ranged-7 : Answers (firstStray (d .locations) (d .exit)) (LeadsOut (d .exit)) (d .locations)
+    ranged-7 = let f = r .locations-from in rule-7 (d .locations) (d .exit) (omega arith) (r .locations-to) (r .exits)
+
+    given-6 : {k : ℕ} → Smallest (λ l. 1 ≤ l → getD (d .given) l false ≡ true) (d .locations) k → judged d .verdict ≡ NoExit k
+    unfolding judged
+    given-6 {k} m = rw (rule-6 (d .locations) (d .given) .at-back k m)
+
+    module _ (six : Six d) where
+      e₆ : firstNoExit (d .locations) (d .given) ≡ found.Nothing
+      e₆ = rule-6 (d .locations) (d .given) .none-back six
+
+      given-7 : {k : ℕ} → Smallest (LeadsOut (d .exit)) (d .locations) k → judged d .verdict ≡ Stray k
+      unfolding judged
+      given-7 {k} m = rw (e₆, ranged-7 .at-back k m)
+
+      module _ (seven : Seven d) where
+        e₇ : firstStray (d .locations) (d .exit) ≡ found.Nothing
+        e₇ = ranged-7 .none-back seven
+
+        given-8 : {k : ℕ} → Smallest (λ l. 1 ≤ l → DoorFrom (d .doors) (d .origin) (d .destination) l (getD (d .exit) l 0)) (d .locations) k → judged d .verdict ≡ NoDoor k
+        unfolding judged
+        given-8 {k} m = rw (e₆, e₇, rule-8 (d .locations) (d .doors) (d .origin) (d .destination) (d .exit) .at-back k m)
+
+        module _ (eight : Eight d) where
+          e₈ : firstNoDoor (d .locations) (d .doors) (d .origin) (d .destination) (d .exit) ≡ found.Nothing
+          e₈ = rule-8 (d .locations) (d .doors) (d .origin) (d .destination) (d .exit) .none-back eight
+
+          given-9 : {p l : ℕ} → SmallestPair (ExitRight d) (d .people) (d .locations) p l → judged d .verdict ≡ NoRight p l
+          unfolding judged
+          given-9 {p} {l} m = rw (e₆, e₇, e₈, rule-9 (d .people) (d .locations) (d .exit) (d .right) .at-back p l m)
+
+          module _ (nine : Nine d) where
+            e₉ : firstNoRight (d .people) (d .locations) (d .exit) (d .right) ≡ pair.Nothing
+            e₉ = rule-9 (d .people) (d .locations) (d .exit) (d .right) .none-back nine
+
+            given-10 : {k : ℕ} → Smallest (FirstLocation (d .doors) (d .origin) (d .destination) (d .right)) (d .people) k → judged d .verdict ≡ ShutOut k
+            unfolding judged
+            given-10 {k} m = rw (e₆, e₇, e₈, e₉, rule-10 (d .people) (d .doors) (d .origin) (d .destination) (d .right) .at-back k m)
+
+            given-0 : Ten d → judged d ≡ acceptedSite d
+            unfolding judged
+            given-0 ten = rw (e₆, e₇, e₈, e₉, rule-10 (d .people) (d .doors) (d .origin) (d .destination) (d .right) .none-back ten)
+
+-- the tables of a sheet whose rows are right hold what its lines say, and pass 3
+pub tabled-held : {s : List ℕ} {d : Draft} (t : Tabled s d) → Held (t .lines) d
+tabled-held t = rw (t .tables) (go (read-of (t .lines) [] 1 blankDraft held-blank))
+  where
+    go : ReadOf [] (t .lines) 1 blankDraft (readLines blankDraft 1 (t .lines)) → Held (t .lines) (draftAfter blankDraft (t .lines))
+    go (all a e q h) = h
+    go (stopped k f w e n q) = absurd (all-not-wrong (t .fine) w)
+
+tabled-ranged : {s : List ℕ} {d : Draft} → Tabled s d → Ranged d
+tabled-ranged t = tabled-held t .ranged (t .some)
+
+-- what the rules give is what is said
+pub gives-site : {s : List ℕ} {v : Verdict} → Gives s v → siteOf s .verdict ≡ v
+unfolding siteOf settled readLines
+gives-site {s} (gives-0 o) =
+    ap (λ x. x .verdict) (tabled-given s (o .rows) ∙ given-0 s (o .rows) (tabled-ranged (o .rows)) (o .six) (o .seven) (o .eight) (o .nine) (o .ten))
+gives-site {s} (gives-1 l) = rw (lt-ltb limit (length s) l)
+gives-site {s} (gives-header short n) = rw (le-ltb limit (length s) short) (header-given s (cutRow s 0) refl n)
+gives-site {s} (gives-row {lines = lines} h w e) = ap (λ x. x .verdict) (headed-reads s h) ∙ row-given s (read-of lines [] 1 blankDraft held-blank) w ∙ sym e
+gives-site {s} (gives-5 h) = ap (λ x. x .verdict) (headed-reads s h)
+gives-site {s} (gives-6 t m) = ap (λ x. x .verdict) (tabled-given s t) ∙ given-6 s t (tabled-ranged t) m
+gives-site {s} (gives-7 t a m) = ap (λ x. x .verdict) (tabled-given s t) ∙ given-7 s t (tabled-ranged t) a m
+gives-site {s} (gives-8 t a b m) = ap (λ x. x .verdict) (tabled-given s t) ∙ given-8 s t (tabled-ranged t) a b m
+gives-site {s} (gives-9 t a b c m) = ap (λ x. x .verdict) (tabled-given s t) ∙ given-9 s t (tabled-ranged t) a b c m
+gives-site {s} (gives-10 t a b c e m) = ap (λ x. x .verdict) (tabled-given s t) ∙ given-10 s t (tabled-ranged t) a b c e m
+
+-- the record of an accepted sheet
+pub accepted-record : {s : List ℕ} (o : Obeys s) → siteOf s ≡ acceptedSite (o .tables)
+accepted-record {s} o = tabled-given s (o .rows) ∙ given-0 s (o .rows) (tabled-ranged (o .rows)) (o .six) (o .seven) (o .eight) (o .nine) (o .ten)
+
+wrong-refuses : (n : ℕ) {before lines : List SiteLine} {k : ℕ} {f : Fault} → WrongAt before lines k f → Accepted ≡ verdictOf f n → ⊥
+wrong-refuses n (here of-form) e = let z : _≡_ {A = ℕ} 0 1 = cc in omega arith
+wrong-refuses n (here (no-site q m)) e = let z : _≡_ {A = ℕ} 0 1 = cc in omega arith
+wrong-refuses n (here (out-of-range m s r)) e = let z : _≡_ {A = ℕ} 0 1 = cc in omega arith
+wrong-refuses n (here (said-again s r a)) e = let z : _≡_ {A = ℕ} 0 1 = cc in omega arith
+wrong-refuses n (further x w) e = wrong-refuses n w e
+
+-- only an obeying sheet is accepted
+pub accepted-obeys : {s : List ℕ} → Gives s Accepted → Obeys s
+accepted-obeys (gives-0 o) = o
+accepted-obeys (gives-row h w e) = absurd (wrong-refuses _ w e)

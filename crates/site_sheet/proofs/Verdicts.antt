@@ -1,0 +1,151 @@
+-- What is said of a sheet is what the rules give, for each number.
+-- Assumes nothing.
+use Prim.Native.Nat.{ℕ, _+_, _≤_}
+use native.Mathlib.Omega.{arith}
+use mathlib.Core.Path.{_≡_, refl, sym, ap, subst, _∙_}
+use mathlib.Core.Bool.{true, false}
+use mathlib.Core.List.{List, [], _∷_, _++_, append-assoc, append-nil}
+use lib.ListN.{length}
+use lib.Dec.{ltb, eqb}
+use borrow.Author.Tests.{ltb-true, ltb-false, eqb-true, eqb-false}
+use Rattle.tables.specs.declared.Found.{Found}
+use Rattle.tables.specs.declared.Found.the-variants as found
+use Rattle.tables.specs.declared.RightFound.{RightFound}
+use Rattle.tables.specs.declared.RightFound.the-variants as pair
+use Rattle.tables.specs.Below.{Answers}
+use Rattle.tables.specs.Tests.{firstNoExit, firstStray, firstNoDoor, firstNoRight, firstShutOut}
+use Rattle.tables.proofs.Laws.{clash}
+use Rattle.tables.proofs.Answers.{rule-6, rule-7, rule-8, rule-9, rule-10}
+use Rattle.tables.proofs.Cases.{either}
+use Rattle.grammar.specs.declared.cut.RowCut.{RowCut}
+use Rattle.grammar.specs.declared.cut.RowCut.the-variants.{Cut, NoRow, Broken}
+use Rattle.grammar.specs.Cut.{cutRow}
+use Rattle.grammar.specs.Rows.{rowsFrom}
+use Rattle.grammar.proofs.Unique.{row-unique, no-row-at}
+use Rattle.grammar.proofs.Exact.{cut-is-row}
+use Rattle.site_sheet.specs.declared.SiteLine.{SiteLine}
+use Rattle.site_sheet.specs.declared.Draft.{Draft}
+use Rattle.site_sheet.specs.declared.Fault.{Fault}
+use Rattle.site_sheet.specs.declared.Fault.the-variants as fault
+use Rattle.verdict.specs.declared.Verdict.the-variants.{NoExit, Stray, NoDoor, NoRight, ShutOut}
+use Rattle.site_sheet.specs.declared.SiteRead.{SiteRead}
+use Rattle.site_sheet.specs.declared.Reading.{Reading}
+use Rattle.site_sheet.specs.Line.{siteHeaderAt}
+use Rattle.site_sheet.specs.Draft.{blankDraft, takeLine}
+use Rattle.site_sheet.specs.Site.{soundFault, linesIn, readLines, acceptedSite, unlessFound, unlessPair, judged, settled, afterHeader, siteOf}
+use Rattle.grammar.specs.Sizes.{limit}
+use Rattle.site_sheet.specs.Says.{Fine}
+use Rattle.site_sheet.specs.Gives.{Headed, FineLines, all-fine, one-fine, WrongAt, here, further, draftAfter, Tabled, Six, Seven, Eight, Nine, Gives, gives-0, gives-1, gives-header, gives-row, gives-5, gives-6, gives-7, gives-8, gives-9, gives-10}
+use Rattle.site_sheet.proofs.Held.{Held, Ranged, held-blank}
+use Rattle.site_sheet.proofs.Outcome.{Outcome, fine, wrong, outcome, nothing-before, some-before}
+use Rattle.site_sheet.proofs.Rows.{headerFrom, header-same, header-is, is-header-row}
+use Rattle.site_sheet.proofs.Text.{no-row-end, broken-none, text-says}
+
+-- ---- the lines of a sheet, read into the tables
+
+pub data ReadOf (before lines : List SiteLine) (n : ℕ) (d : Draft) (r : Reading) : Type 0 where
+  all : FineLines before lines → r .fault ≡ fault.Sound → r .draft ≡ draftAfter d lines → Held (before ++ lines) (draftAfter d lines) → ReadOf before lines n d r
+  stopped : (k : ℕ) (f : Fault) → WrongAt before lines k f → r .fault ≡ f → r .row ≡ n + k → soundFault f ≡ false → ReadOf before lines n d r
+
+module _ (before : List SiteLine) (line : SiteLine) (lines : List SiteLine) (n : ℕ) (d : Draft) where
+  onward : Fine before line → (r : Reading) → ReadOf (before ++ (line ∷ [])) lines (n + 1) (takeLine d line .draft) r → ReadOf before (line ∷ lines) n d r
+  unfolding draftAfter
+  onward f r (all a s e h) = all (one-fine f a) s e (rw (append-assoc before (line ∷ []) lines) at h)
+  onward f r (stopped k g w s e q) = stopped (k + 1) g (further f w) s (e ∙ omega arith) q
+
+  read-turn : Outcome before d line (takeLine d line)
+      → (Held (before ++ (line ∷ [])) (takeLine d line .draft) → ReadOf (before ++ (line ∷ [])) lines (n + 1) (takeLine d line .draft) (readLines (takeLine d line .draft) (n + 1) lines))
+      → ReadOf before (line ∷ lines) n d (readLines d n (line ∷ lines))
+  unfolding readLines
+  read-turn (fine f s h) more =
+      let e : soundFault (takeLine d line .fault) ≡ true = rw s in
+      rw e (onward f (readLines (takeLine d line .draft) (n + 1) lines) (more h))
+  read-turn (wrong f w t q) more = stopped 0 f (here w) (rw (t, q)) (rw (t, q) (omega arith)) q
+
+pub read-of : (lines before : List SiteLine) (n : ℕ) (d : Draft) → Held before d → ReadOf before lines n d (readLines d n lines)
+unfolding readLines draftAfter
+read-of [] before n d h = all all-fine refl refl (rw (append-nil before) h)
+read-of (line ∷ lines) before n d h =
+    read-turn before line lines n d (outcome before d h line) (λ k. read-of lines (before ++ (line ∷ [])) (n + 1) (takeLine d line .draft) k)
+
+-- ---- the rules of the whole sheet
+
+abbrev Given : List ℕ → SiteRead → Type 0
+Given s x = Gives s (x .verdict)
+
+module _ (s : List ℕ) (d : Draft) (t : Tabled s d) (r : Ranged d) where
+  ten : Six d → Seven d → Eight d → Nine d → (x : Found) → firstShutOut (d .people) (d .doors) (d .origin) (d .destination) (d .right) ≡ x
+      → Given s (unlessFound x ShutOut (acceptedSite d))
+  ten a b c e (found.At k) q = gives-10 t a b c e (rule-10 (d .people) (d .doors) (d .origin) (d .destination) (d .right) .at-yes k q)
+  ten a b c e found.Nothing q =
+      gives-0 (record { tables = d; rows = t; six = a; seven = b; eight = c; nine = e; ten = rule-10 (d .people) (d .doors) (d .origin) (d .destination) (d .right) .none-yes q })
+
+  nine : Six d → Seven d → Eight d → (x : RightFound) → firstNoRight (d .people) (d .locations) (d .exit) (d .right) ≡ x
+      → Given s (unlessPair x NoRight (unlessFound (firstShutOut (d .people) (d .doors) (d .origin) (d .destination) (d .right)) ShutOut (acceptedSite d)))
+  nine a b c (pair.At p l) q = gives-9 t a b c (rule-9 (d .people) (d .locations) (d .exit) (d .right) .at-yes p l q)
+  nine a b c pair.Nothing q = ten a b c (rule-9 (d .people) (d .locations) (d .exit) (d .right) .none-yes q) _ refl
+
+  eight : Six d → Seven d → (x : Found) → firstNoDoor (d .locations) (d .doors) (d .origin) (d .destination) (d .exit) ≡ x
+      → Given s (unlessFound x NoDoor (unlessPair (firstNoRight (d .people) (d .locations) (d .exit) (d .right)) NoRight
+      (unlessFound (firstShutOut (d .people) (d .doors) (d .origin) (d .destination) (d .right)) ShutOut (acceptedSite d))))
+  eight a b (found.At k) q = gives-8 t a b (rule-8 (d .locations) (d .doors) (d .origin) (d .destination) (d .exit) .at-yes k q)
+  eight a b found.Nothing q = nine a b (rule-8 (d .locations) (d .doors) (d .origin) (d .destination) (d .exit) .none-yes q) _ refl
+
+  seven-answers : Answers (firstStray (d .locations) (d .exit)) (Rattle.tables.specs.Way.LeadsOut (d .exit)) (d .locations)
+  seven-answers = let f = r .locations-from in rule-7 (d .locations) (d .exit) (omega arith) (r .locations-to) (r .exits)
+
+  seven : Six d → (x : Found) → firstStray (d .locations) (d .exit) ≡ x
+      → Given s (unlessFound x Stray (unlessFound (firstNoDoor (d .locations) (d .doors) (d .origin) (d .destination) (d .exit)) NoDoor
+      (unlessPair (firstNoRight (d .people) (d .locations) (d .exit) (d .right)) NoRight
+      (unlessFound (firstShutOut (d .people) (d .doors) (d .origin) (d .destination) (d .right)) ShutOut (acceptedSite d)))))
+  seven a (found.At k) q = gives-7 t a (seven-answers .at-yes k q)
+  seven a found.Nothing q = eight a (seven-answers .none-yes q) _ refl
+
+  six : (x : Found) → firstNoExit (d .locations) (d .given) ≡ x
+      → Given s (unlessFound x NoExit (unlessFound (firstStray (d .locations) (d .exit)) Stray (unlessFound (firstNoDoor (d .locations) (d .doors) (d .origin) (d .destination) (d .exit)) NoDoor
+      (unlessPair (firstNoRight (d .people) (d .locations) (d .exit) (d .right)) NoRight
+      (unlessFound (firstShutOut (d .people) (d .doors) (d .origin) (d .destination) (d .right)) ShutOut (acceptedSite d))))))
+  six (found.At k) q = gives-6 t (rule-6 (d .locations) (d .given) .at-yes k q)
+  six found.Nothing q = seven (rule-6 (d .locations) (d .given) .none-yes q) _ refl
+
+  judged-gives : Given s (judged d)
+  unfolding judged
+  judged-gives = six (firstNoExit (d .locations) (d .given)) refl
+
+-- ---- the whole sheet
+
+settled-gives : (s : List ℕ) (lines : List SiteLine) (r : Reading) → Headed s lines → ReadOf [] lines 1 blankDraft r → Given s (settled r)
+unfolding settled
+settled-gives s lines r h (all a f e k) =
+    let d : Draft = draftAfter blankDraft lines in
+    let q : soundFault (r .fault) ≡ true = rw f in
+    rw (q, e)
+    (either (Given s) (eqb (d .locations) 0)
+    (λ z. let n = nothing-before lines d k (eqb-true (d .locations) 0 z) in gives-5 (subst (Headed s) n h))
+    (λ z. let n = some-before lines d k (eqb-false (d .locations) 0 z) in
+    judged-gives s d (record { lines = lines; headed = h; some = n; fine = a; tables = refl }) (k .ranged n)))
+settled-gives s lines r h (stopped k f w e n q) =
+    let m : 1 + k ≡ k + 1 = omega arith in
+    rw (e, q, n, m) (gives-row h w refl)
+
+module _ (s : List ℕ) (short : length s ≤ limit) where
+  after-gives : (cut : RowCut) → cutRow s 0 ≡ cut → Given s (afterHeader s cut)
+  unfolding afterHeader
+  after-gives (Cut cells next) e =
+      let c = cut-is-row s 0 e in
+      let same = header-same s (c .row) (c .holds) in
+      either (Given s) (siteHeaderAt s cells)
+      (λ y.
+      let h : Headed s (linesIn s (rowsFrom s next)) =
+      record { short = short; header = c .row; rest = c .rest; at = c .there; is = header-is (c .row) (sym same ∙ y); says = rw (c .behind) at (text-says s next) } in
+      settled-gives s (linesIn s (rowsFrom s next)) _ h (read-of (linesIn s (rowsFrom s next)) [] 1 blankDraft held-blank))
+      (λ n. gives-header short (λ r rest a i. clash (is-header-row r i) (ap headerFrom (row-unique a (c .there) refl .first) ∙ sym same ∙ n)))
+  after-gives NoRow e = gives-header short (λ r rest a i. no-row-at a (sym (no-row-end s 0 e)))
+  after-gives (Broken byte) e = gives-header short (λ r rest a i. broken-none s 0 e r rest a)
+
+-- what is said of a sheet is what the rules give
+pub site-gives : (s : List ℕ) → Gives s (siteOf s .verdict)
+unfolding siteOf
+site-gives s =
+    either (Given s) (ltb limit (length s)) (λ e. gives-1 (ltb-true limit (length s) e))
+    (λ e. after-gives s (ltb-false limit (length s) e) (cutRow s 0) refl)

@@ -1,0 +1,63 @@
+-- What a row of a site sheet says. 01, "Site sheet".
+use Prim.Native.Nat.{ℕ}
+use mathlib.Core.Bool.{Bool, cond}
+use mathlib.Core.List.{List, [], _∷_}
+use lib.Dec.{eqb}
+use Rattle.grammar.specs.Say.{isWord, saysWords, numberAt}
+use Rattle.grammar.specs.declared.cut.Cell.{Cell}
+use Rattle.grammar.specs.declared.cut.Cells.{Cells}
+use Rattle.grammar.specs.declared.say.Number.{Number}
+use Rattle.grammar.specs.declared.say.Number.the-variants as number
+use Rattle.site_sheet.specs.declared.Word.{Word}
+use Rattle.site_sheet.specs.declared.Word.the-variants as word
+use Rattle.site_sheet.specs.declared.SiteLine.{SiteLine}
+use Rattle.site_sheet.specs.declared.SiteLine.the-variants.{Site, Door, Exit, Right, Bad}
+
+-- the words of a site sheet, in bytes: `site`, `door`, `exit`, `right`; and of its header: `kind`, `a`, `b`
+abbrev pub siteWord : List ℕ
+siteWord = 115 ∷ 105 ∷ 116 ∷ 101 ∷ []
+
+abbrev pub doorWord : List ℕ
+doorWord = 100 ∷ 111 ∷ 111 ∷ 114 ∷ []
+
+abbrev pub exitWord : List ℕ
+exitWord = 101 ∷ 120 ∷ 105 ∷ 116 ∷ []
+
+abbrev pub rightWord : List ℕ
+rightWord = 114 ∷ 105 ∷ 103 ∷ 104 ∷ 116 ∷ []
+
+abbrev pub kindHead : List ℕ
+kindHead = 107 ∷ 105 ∷ 110 ∷ 100 ∷ []
+
+abbrev pub aHead : List ℕ
+aHead = 97 ∷ []
+
+abbrev pub bHead : List ℕ
+bHead = 98 ∷ []
+
+-- the word that a field is
+unfoldable pub wordOf : List ℕ → Cell → Word
+wordOf s cell =
+    cond (isWord s cell siteWord) word.Site
+    (cond (isWord s cell doorWord) word.Door
+    (cond (isWord s cell exitWord) word.Exit (cond (isWord s cell rightWord) word.Right word.Unknown)))
+
+abbrev pub siteLineWith : Word → ℕ → ℕ → SiteLine
+siteLineWith word.Site a b = Site a b
+siteLineWith word.Door a b = Door a b
+siteLineWith word.Exit a b = Exit a b
+siteLineWith word.Right a b = Right a b
+siteLineWith word.Unknown a b = Bad
+
+abbrev pub siteLineOf : Word → Number → Number → SiteLine
+siteLineOf w (number.Is a) (number.Is b) = siteLineWith w a b
+siteLineOf w (number.Is a) number.None = Bad
+siteLineOf w number.None b = Bad
+
+-- "Every row has three fields", a word and two numbers
+unfoldable pub siteLineAt : List ℕ → Cells → SiteLine
+siteLineAt s cells = cond (eqb (cells .count) 3) (siteLineOf (wordOf s (cells .first)) (numberAt s (cells .second)) (numberAt s (cells .third))) Bad
+
+-- "The header row is `kind,a,b`."
+unfoldable pub siteHeaderAt : List ℕ → Cells → Bool
+siteHeaderAt s cells = saysWords s cells kindHead aHead bHead

@@ -1,0 +1,86 @@
+// What a site sheet says, and what is answered to it: a row, the tables while a sheet is being read, and the
+// answer. The definitions are in specs/, in the words of paper 01, "Site sheet" and "Numbers given back",
+// and the theorems of them in proofs/. There is no function here.
+use record::record::Record;
+use tables::MOST_DOORS;
+use tables::MOST_LOCATIONS;
+use tables::MOST_RIGHTS;
+use verdict::Verdict;
+
+// The first field of a row.
+pub enum Word {
+    Site,
+    Door,
+    Exit,
+    Right,
+    Unknown,
+}
+
+// A row, or that it is of bad form.
+pub enum SiteLine {
+    Site(usize, usize),
+    Door(usize, usize),
+    Exit(usize, usize),
+    Right(usize, usize),
+    Bad,
+}
+
+// The counts. No locations as long as the `site` row hasn't come.
+pub struct Counts {
+    pub people: usize,
+    pub locations: usize,
+    pub doors: usize,
+}
+
+// The counts, each door's origin and destination, each location's exit with a mark where one has been given, and the
+// rights, 32 to a person.
+pub struct Draft {
+    pub people: usize,
+    pub locations: usize,
+    pub doors: usize,
+    pub origin: [u8; MOST_DOORS],
+    pub destination: [u8; MOST_DOORS],
+    pub exit: [u8; MOST_LOCATIONS],
+    pub given: [bool; MOST_LOCATIONS],
+    pub right: [bool; MOST_RIGHTS],
+}
+
+// What is wrong with a row.
+pub enum Fault {
+    // nothing
+    Sound,
+    // 2: bad form
+    Form,
+    // 5: not the `site` row that has to come first
+    NoSite,
+    // 3: out of range
+    Range,
+    // 4: said before
+    Twice,
+}
+
+// The counts after a row, and what is wrong with it.
+pub struct RowTaken {
+    pub counts: Counts,
+    pub fault: Fault,
+}
+
+// Where the rows of a sheet stopped: the counts then, what is wrong with the last row, and its number.
+pub struct Stop {
+    pub counts: Counts,
+    pub fault: Fault,
+    pub row: usize,
+}
+
+// How far the rows of a sheet were read: the tables, what is wrong with the last row, and its number.
+pub struct Reading {
+    pub draft: Draft,
+    pub fault: Fault,
+    pub row: usize,
+}
+
+// The answer to a sheet: what is said of it, and the fresh record, or a blank one where the sheet is refused.
+pub struct SiteRead {
+    pub verdict: Verdict,
+    pub record: Record,
+}

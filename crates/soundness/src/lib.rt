@@ -1,0 +1,303 @@
+// Are lent lists as a sound record's are? Each sentence of the paper's section is a test over the
+// lists that it speaks of, which are never copied.
+ghost use mathlib.Core.Path.{_≡_};
+ghost use Rattle.door.specs.Fits.{isFree};
+ghost use Rattle.soundness.specs.SoundTest.{zeroAt, zeroFrom, rightFits, rightsFit, placeFits, placesFit};
+ghost use Rattle.soundness.specs.SoundTest.{doorFits, doorsFit, grantFits, grantsFit, soleGrant, soleGrants};
+ghost use Rattle.soundness.specs.SoundTest.{zeroBeyond, doorsSound, listsSound};
+use door::Door;
+use door::phase::grants;
+use granting::grant_of;
+use phases::phase::Phase;
+use tables::Found;
+use tables::MOST_DOORS;
+use tables::MOST_LOCATIONS;
+use tables::lists::byte_at;
+use tables::lists::word_at;
+
+// Beyond the count a table holds 0.
+fn zero_at(count: usize, table: &[u8], at: usize) -> bool
+    ensures { λ r. ⌜ r ≡ zeroAt count (now (table .entry)) at ⌝ }
+{
+    if at < count {
+        return true;
+    }
+    byte_at(table, at) == 0
+}
+
+fn zero_from(count: usize, table: &[u8]) -> bool
+    ensures { λ r. ⌜ r ≡ zeroFrom count (now (table .entry)) ⌝ }
+{
+    let mut at = 0;
+    while at < table.len() {
+        if !zero_at(count, table, at) {
+            return false;
+        }
+        at += 1;
+    }
+    true
+}
+
+// A right is one of a person to a location other than 0.
+fn right_fits(people: usize, locations: usize, right: &[bool], at: usize) -> bool
+    ensures { λ r. ⌜ r ≡ rightFits people locations (now (right .entry)) at ⌝ }
+{
+    if right.len() <= at {
+        return true;
+    }
+    if !right[at] {
+        return true;
+    }
+    if people <= at / MOST_LOCATIONS {
+        return false;
+    }
+    let location = at % MOST_LOCATIONS;
+    if location == 0 {
+        return false;
+    }
+    location < locations
+}
+
+fn rights_fit(people: usize, locations: usize, right: &[bool]) -> bool
+    ensures { λ r. ⌜ r ≡ rightsFit people locations (now (right .entry)) ⌝ }
+{
+    let mut at = 0;
+    while at < right.len() {
+        if !right_fits(people, locations, right, at) {
+            return false;
+        }
+        at += 1;
+    }
+    true
+}
+
+// A person is where they may be, and beyond the people stands 0.
+fn place_fits<'a>(people: usize, right: &'a [bool], place: &'a [u8], person: usize) -> bool
+    ensures { λ r. ⌜ r ≡ placeFits people (now (right .entry)) (now (place .entry)) person ⌝ }
+{
+    let location = byte_at(place, person) as usize;
+    if person < people {
+        return rules::may_be(right, person, location);
+    }
+    location == 0
+}
+
+fn places_fit<'a>(people: usize, right: &'a [bool], place: &'a [u8]) -> bool
+    ensures { λ r. ⌜ r ≡ placesFit people (now (right .entry)) (now (place .entry)) ⌝ }
+{
+    let mut person = 0;
+    while person < place.len() {
+        if !place_fits(people, right, place, person) {
+            return false;
+        }
+        person += 1;
+    }
+    true
+}
+
+// A door is as a free door is.
+fn is_free(door: Door) -> bool
+    ensures { λ r. ⌜ r ≡ isFree door ⌝ }
+{
+    if door.phase != Phase::FREE {
+        return false;
+    }
+    if door.holder != 0 {
+        return false;
+    }
+    door.count == 0
+}
+
+// A door's fields fit, and beyond the doors stands 0.
+fn door_fits<'a>(
+    people: usize,
+    doors: usize,
+    phase: &'a [u8],
+    holder: &'a [u16],
+    count: &'a [u16],
+    door: usize,
+) -> bool
+    ensures { λ r. ⌜ r ≡ doorFits people doors (now (phase .entry)) (now (holder .entry)) (now (count .entry)) door ⌝ }
+{
+    let so = Door::among(phase, holder, count, door);
+    if door < doors {
+        return so.fits(people);
+    }
+    is_free(so)
+}
+
+fn doors_fit<'a>(
+    people: usize,
+    doors: usize,
+    phase: &'a [u8],
+    holder: &'a [u16],
+    count: &'a [u16],
+) -> bool
+    ensures { λ r. ⌜ r ≡ doorsFit people doors (now (phase .entry)) (now (holder .entry)) (now (count .entry)) ⌝ }
+{
+    let mut door = 0;
+    while door < MOST_DOORS {
+        if !door_fits(people, doors, phase, holder, count, door) {
+            return false;
+        }
+        door += 1;
+    }
+    true
+}
+
+// A grant's door starts where the person is, and the person has a right to its destination.
+fn grant_fits<'a>(
+    origin: &'a [u8],
+    destination: &'a [u8],
+    right: &'a [bool],
+    place: &'a [u8],
+    phase: &'a [u8],
+    holder: &'a [u16],
+    door: usize,
+) -> bool
+    ensures { λ r. ⌜ r ≡ grantFits (now (origin .entry)) (now (destination .entry)) (now (right .entry)) (now (place .entry)) (now (phase .entry)) (now (holder .entry)) door ⌝ }
+{
+    if !grants(byte_at(phase, door)) {
+        return true;
+    }
+    let person = word_at(holder, door) as usize;
+    if byte_at(place, person) != byte_at(origin, door) {
+        return false;
+    }
+    rules::may_be(right, person, byte_at(destination, door) as usize)
+}
+
+fn grants_fit<'a>(
+    doors: usize,
+    origin: &'a [u8],
+    destination: &'a [u8],
+    right: &'a [bool],
+    place: &'a [u8],
+    phase: &'a [u8],
+    holder: &'a [u16],
+) -> bool
+    ensures { λ r. ⌜ r ≡ grantsFit doors (now (origin .entry)) (now (destination .entry)) (now (right .entry)) (now (place .entry)) (now (phase .entry)) (now (holder .entry)) ⌝ }
+{
+    let mut door = 0;
+    while door < doors {
+        if !grant_fits(origin, destination, right, place, phase, holder, door) {
+            return false;
+        }
+        door += 1;
+    }
+    true
+}
+
+// No door before this one holds a grant of the same person.
+fn sole_grant<'a>(phase: &'a [u8], holder: &'a [u16], door: usize) -> bool
+    ensures { λ r. ⌜ r ≡ soleGrant (now (phase .entry)) (now (holder .entry)) door ⌝ }
+{
+    if !grants(byte_at(phase, door)) {
+        return true;
+    }
+    match grant_of(door, phase, holder, word_at(holder, door) as usize) {
+        Found::At(_) => false,
+        Found::Nothing => true,
+    }
+}
+
+fn sole_grants<'a>(doors: usize, phase: &'a [u8], holder: &'a [u16]) -> bool
+    ensures { λ r. ⌜ r ≡ soleGrants doors (now (phase .entry)) (now (holder .entry)) ⌝ }
+{
+    let mut door = 0;
+    while door < doors {
+        if !sole_grant(phase, holder, door) {
+            return false;
+        }
+        door += 1;
+    }
+    true
+}
+
+// Beyond the counts the tables hold 0, and so do location 0's own exit and rights.
+fn tables_end<'a>(
+    people: usize,
+    locations: usize,
+    doors: usize,
+    origin: &'a [u8],
+    destination: &'a [u8],
+    exit: &'a [u8],
+    right: &'a [bool],
+) -> bool
+    ensures { λ r. ⌜ r ≡ zeroBeyond people locations doors (now (origin .entry)) (now (destination .entry)) (now (exit .entry)) (now (right .entry)) ⌝ }
+{
+    if !zero_from(doors, origin) {
+        return false;
+    }
+    if !zero_from(doors, destination) {
+        return false;
+    }
+    if !zero_from(locations, exit) {
+        return false;
+    }
+    if byte_at(exit, 0) != 0 {
+        return false;
+    }
+    rights_fit(people, locations, right)
+}
+
+// Each door's fields fit, each grant fits, and no person has two grants.
+fn doors_sound<'a>(
+    people: usize,
+    doors: usize,
+    origin: &'a [u8],
+    destination: &'a [u8],
+    right: &'a [bool],
+    place: &'a [u8],
+    phase: &'a [u8],
+    holder: &'a [u16],
+    count: &'a [u16],
+) -> bool
+    ensures { λ r. ⌜ r ≡ doorsSound people doors (now (origin .entry)) (now (destination .entry)) (now (right .entry)) (now (place .entry)) (now (phase .entry)) (now (holder .entry)) (now (count .entry)) ⌝ }
+{
+    if !doors_fit(people, doors, phase, holder, count) {
+        return false;
+    }
+    if !grants_fit(doors, origin, destination, right, place, phase, holder) {
+        return false;
+    }
+    sole_grants(doors, phase, holder)
+}
+
+// Are these lists those of a sound record?
+pub fn lists_sound<'a>(
+    people: usize,
+    locations: usize,
+    doors: usize,
+    origin: &'a [u8],
+    destination: &'a [u8],
+    exit: &'a [u8],
+    right: &'a [bool],
+    place: &'a [u8],
+    phase: &'a [u8],
+    holder: &'a [u16],
+    count: &'a [u16],
+) -> bool
+    ensures { λ r. ⌜ r ≡ listsSound people locations doors (now (origin .entry)) (now (destination .entry)) (now (exit .entry)) (now (right .entry)) (now (place .entry)) (now (phase .entry)) (now (holder .entry)) (now (count .entry)) ⌝ }
+{
+    if !rules::lawful(people, locations, doors, origin, destination, exit, right) {
+        return false;
+    }
+    if !tables_end(people, locations, doors, origin, destination, exit, right) {
+        return false;
+    }
+    if !places_fit(people, right, place) {
+        return false;
+    }
+    doors_sound(
+        people,
+        doors,
+        origin,
+        destination,
+        right,
+        place,
+        phase,
+        holder,
+        count,
+    )
+}
