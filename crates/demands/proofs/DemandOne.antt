@@ -47,7 +47,7 @@ use Rattle.phases.specs.declared.table.Kind.the-variants.{Card, Decide, Green, 
 use Rattle.door.specs.declared.Door.{Door}
 use Rattle.phases.specs.declared.answer.Answer.{Answer}
 use Rattle.phases.specs.declared.answer.Answer.the-variants.{NoSuch, NotAllowed, Unsound}
-use Rattle.phases.specs.Answers.{answerNo}
+use Rattle.phases.specs.Answers.{grantTold, grantNo, answerNo}
 use Rattle.phases.specs.Phase.{green, denied, red}
 use Rattle.record.specs.Doors.{doorOf, Shaped}
 use Rattle.granting.specs.Grants.{grantOf}
@@ -59,7 +59,7 @@ use Rattle.door.specs.declared.does.Does.the-variants.{Stays, Turns, Moves}
 use Rattle.door.specs.Does.{effect}
 use Rattle.record.specs.Steps.{reasonFor, act, refused, doing, exist, soundStep, stepOf}
 use Rattle.record.specs.Run.{roomFor, roomIn, ranOf, tellingOf}
-use Rattle.record.specs.Questions.{placeOf, grantFound, grantedTo, grantNo, grantTold, wayAnswerOf, wayWritten}
+use Rattle.record.specs.Questions.{placeOf, grantFound, grantedTo, wayAnswerOf, wayWritten}
 use Rattle.tables.proofs.Cases.{either}
 use Rattle.record.proofs.Keep.{put-same}
 use Rattle.record.proofs.Fresh.{fresh-sound}
@@ -75,7 +75,8 @@ use Rattle.site_sheet.specs.Site.{soundFault, firstPlace, secondPlace, blankRec
 use Rattle.grammar.specs.Sizes.{limit}
 use Rattle.site_sheet.specs.Site as site
 use Rattle.site_sheet.proofs.Theorems.{given-exactly}
-use Rattle.demands.specs.DemandOne.{NumberBy, Within, Lies, FieldTold, RowTold, CountTold, SheetAnswers, WayTells, RulesAnswers}
+use Rattle.demands.specs.DemandOne.{Within, Lies, FieldTold, RowTold, CountTold, SheetAnswers, WayTells, RulesAnswers}
+use Rattle.demands.specs.Telling.{NumberBy}
 use Rattle.demands.specs.DemandOne.{Exists, stepOrder, StepTells, Room, RunTells, PlaceTells, GrantTells, WayOutTells, RecordAnswers, SiteTells, SiteAnswers}
 
 -- ---- crate `sheet`

@@ -20,7 +20,7 @@ use Rattle.phases.specs.declared.table.Kind.{Kind}
 use Rattle.phases.specs.declared.table.Kind.the-variants.{Card, Decide, Green, Red, Walk, Tick, Passed, Lapsed, Dark, Ack, Unknown}
 use Rattle.phases.specs.declared.answer.Answer.the-variants.{Done}
 use Rattle.record.specs.declared.steps.Step.{Step}
-use Rattle.record.specs.declared.questions.WayAnswer.the-variants.{Length}
+use Rattle.phases.specs.declared.answer.WayAnswer.the-variants.{Length}
 use Rattle.phases.specs.Phase.{free, read, granted, green, walked, expired, denied, red, dimmed, closed}
 use Rattle.record.specs.Doors.{doorOf, Tables, putDoor, Shaped}
 use Rattle.phases.specs.Kinds.{StepRow, allows, namesPerson}

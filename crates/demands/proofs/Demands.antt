@@ -29,6 +29,7 @@ use Rattle.card_by_card.proofs.DemandThree as three
 use Rattle.card_by_card.proofs.Warden as warden
 use Rattle.demands.proofs.Accepted.{accepted-fresh}
 use Rattle.demands.proofs.Unique.{sheet-unique, tables-unique, rules-unique, door-unique, sound-unique, record-unique, site-unique, run-unique, papers-unique}
+use Rattle.demands.proofs.Answered.{of-enums, enums-unique}
 use Rattle.demands.proofs.TwelveCases as cases
 
 -- "1. Any sheet of text, any record, any number for a door or a person: the panel ends, and acts or refuses by a number from the
@@ -42,6 +43,7 @@ demand-1 =
       of-door = of-door;
       of-sound = of-sound;
       of-record = of-record;
+      of-enums = of-enums;
       of-site = of-site;
       of-run = of-run;
     }
@@ -94,6 +96,7 @@ answers-unique =
       of-door = door-unique;
       of-sound = sound-unique;
       of-record = record-unique;
+      of-enums = enums-unique;
       of-site = site-unique;
       of-run = run-unique;
       of-the-papers = papers-unique;

@@ -30,7 +30,8 @@ use Rattle.tables.proofs.Cases.{either, same-or-not}
 use Rattle.granting.proofs.Granting.{found-grant}
 use Rattle.record.specs.Sound.{ZeroBeyond}
 use Rattle.record.proofs.Tells.{ends-tell, tell-places, tell-fields, tell-sole, sole-alone}
-use Rattle.demands.specs.DemandOne.{OneOf, TablesAnswers, DoesTold, DoorAnswers, SoundAnswers}
+use Rattle.demands.specs.DemandOne.{TablesAnswers, DoesTold, DoorAnswers, SoundAnswers}
+use Rattle.demands.specs.Telling.{OneOf}
 
 -- ---- lent lists
 

@@ -1,5 +1,6 @@
 -- The theorems. `Demands` is the file to read: it has each by its name. The others prove their parts.
 --     DemandOne, DemandTwo, Unique   demands 1 and 2, and that answers are unique
+--     Answered                       enum answers by the papers' numbers and values
 --     Leaves                         demand 1 of the functions on which the record stands
 --     Accepted                       the record of an accepted site sheet is fresh
 --     TwelveCases                    the paper's cases, and the run that it prints
@@ -9,6 +10,7 @@ pub mod Accepted
 pub mod Example
 pub mod TwelveCases
 pub mod Unique
+pub mod Answered
 pub mod Leaves
 pub mod Fits
 pub mod DemandOne

@@ -36,7 +36,8 @@ use Rattle.run_text.specs.Printed.{placeRows, placesText, recordText, lastRecor
 use Rattle.run_text.proofs.Writing.{four-width}
 use Rattle.run_text.proofs.Serving.{steps-even, steps-told, rows-length}
 use Rattle.run_text.proofs.Sheets.{zero-accepted, headed-short}
-use Rattle.demands.specs.DemandOne.{OneOf, HeadingTold, TextTells, RunAnswers}
+use Rattle.demands.specs.DemandOne.{HeadingTold, TextTells, RunAnswers}
+use Rattle.demands.specs.Telling.{OneOf}
 use Rattle.demands.proofs.DemandOne.{number-most, of-rules}
 use Rattle.demands.proofs.Fits.{steps-few, rows-short, places-short}
 

@@ -23,7 +23,7 @@ use Rattle.granting.specs.Reasons.{firstReason}
 use Rattle.record.specs.Steps.{act, exist, soundStep}
 use Rattle.record.specs.SoundTest.{soundB}
 use Rattle.record.specs.Questions.{wayAnswerOf, wayWritten}
-use Rattle.record.specs.declared.questions.WayAnswer.the-variants.{Length}
+use Rattle.phases.specs.declared.answer.WayAnswer.the-variants.{Length}
 use Rattle.record.specs.Run.{rowOf, lastOf, toldOf}
 use Rattle.record.proofs.Laws.{sound-steps, sound-stays, shaped-stays, run-sound, run-shaped}
 use Rattle.record.proofs.Tells.{sound-tells}

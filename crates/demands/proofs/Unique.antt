@@ -4,10 +4,11 @@ use mathlib.Core.Path.{_≡_, sym, _∙_}
 use mathlib.Core.List.{List}
 use Rattle.record.proofs.Right.{reason-only}
 use Rattle.site_sheet.proofs.Only.{gives-site}
-use Rattle.demands.specs.Unique.{Unique, SheetUnique, TablesUnique, RulesUnique, DoorUnique, SoundUnique, RecordUnique, SiteUnique, RunUnique, PapersUnique}
+use Rattle.demands.specs.Telling.{Unique}
+use Rattle.demands.specs.Unique.{SheetUnique, TablesUnique, RulesUnique, DoorUnique, SoundUnique, RecordUnique, SiteUnique, RunUnique, PapersUnique}
 
 -- an equation allows one answer,
-alone : {A : Type 0} {a : A} → Unique (λ (x : A). x ≡ a)
+pub alone : {A : Type 0} {a : A} → Unique (λ (x : A). x ≡ a)
 alone x y p q = p ∙ sym q
 
 -- two equations one answer and one list or record,
@@ -97,9 +98,9 @@ record-unique =
       dark = λ r d. alone;
       ack = λ r d. alone;
       run = λ r steps doors persons answers phases reasons. beside-three;
-      place-of = λ r p. alone;
-      granted-to = λ r p. alone;
-      way-out = λ r l list. beside;
+      place-of = λ r p x y a b. a .0 ∙ sym (b .0);
+      granted-to = λ r p x y a b. a .0 ∙ sym (b .0);
+      way-out = λ r l list x y a b. beside x y (a .0, a .3) (b .0, b .3);
     }
 
 pub site-unique : SiteUnique

@@ -5,7 +5,7 @@ use mathlib.Core.List.{List, [], _∷_}
 use lib.ListN.{getD}
 use Rattle.record.specs.declared.record.Record.{Record}
 use Rattle.phases.specs.declared.table.Kind.the-variants.{Card, Decide, Green, Walk, Passed, Ack}
-use Rattle.record.specs.declared.questions.WayAnswer.the-variants.{Length}
+use Rattle.phases.specs.declared.answer.WayAnswer.the-variants.{Length}
 use Rattle.phases.specs.Phase.{green, expired}
 use Rattle.record.specs.Run.{rowOf, lastOf}
 use Rattle.phases.specs.Kinds.{StepRow}

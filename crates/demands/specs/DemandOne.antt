@@ -39,7 +39,7 @@ use Rattle.phases.specs.declared.table.Kind.the-variants.{Card, Decide, Green, 
 use Rattle.phases.specs.declared.answer.Answer.{Answer}
 use Rattle.phases.specs.declared.answer.Answer.the-variants.{Done, NoSuch, NotAllowed, Unsound}
 use Rattle.record.specs.declared.steps.Step.{Step}
-use Rattle.phases.specs.Answers.{answerNo}
+use Rattle.phases.specs.Answers.{lengthTold, wayNo, grantTold, grantNo, placeTold, placeNo, answerNo}
 use Rattle.door.specs.declared.Door.{Door}
 use Rattle.door.specs.declared.does.Does.{Does}
 use Rattle.door.specs.declared.does.Does.the-variants.{Stays, Turns, Moves}
@@ -57,7 +57,7 @@ use Rattle.record.specs.Sound.{ZeroBeyond, Sound}
 use Rattle.record.specs.SoundTest.{soundB}
 use Rattle.record.specs.Steps.{stepOf}
 use Rattle.record.specs.Run.{rowsOf, lastOf, toldOf, answerTold, phaseTold, reasonTold, runOf, answersOf, phasesOf, reasonsOf}
-use Rattle.record.specs.Questions.{placeOf, placeNo, placeTold, grantedTo, grantNo, grantTold, wayAnswerOf, wayWritten, wayNo, lengthTold}
+use Rattle.record.specs.Questions.{placeOf, grantedTo, wayAnswerOf, wayWritten}
 use Rattle.verdict.specs.declared.Verdict.{Verdict}
 use Rattle.site_sheet.specs.Site.{siteOf, blankRecord, firstPlace, secondPlace}
 use Rattle.grammar.specs.Sizes.{limit}
@@ -70,24 +70,8 @@ use Rattle.run_text.specs.declared.text.Printed.the-variants.{Text}
 use Rattle.run_text.specs.Steps.{headingOf}
 use Rattle.run_text.specs.Printed.{panelText, whereText, printedOf, printedNo}
 use Rattle.run_text.specs.Printed as run
-
--- ---- the order of the numbers
-
--- "Steps and questions: 14, then 11, then 12 or 13.": a number, the fact without which it is given, and what is asked next
-infixr 5 _unless_then_
-pub data Order : Type 1 where
-  done : Order
-  _unless_then_ : ℕ → Type 0 → Order → Order
-
--- n is the number of the first fact that fails, and 0 where none does
-abbrev pub NumberBy : Order → ℕ → Type 0
-NumberBy done n = n ≡ 0
-NumberBy (m unless Fact then order) n = ((Fact → ⊥) × (n ≡ m)) ⊎ (Fact × NumberBy order n)
-
--- n is one of these numbers
-abbrev pub OneOf : List ℕ → ℕ → Type 0
-OneOf [] n = ⊥
-OneOf (m ∷ ms) n = (n ≡ m) ⊎ OneOf ms n
+use Rattle.demands.specs.Telling.{Order, done, _unless_then_, NumberBy, OneOf}
+use Rattle.demands.specs.Answered.{EnumAnswers}
 
 -- ---- crate `sheet`
 
@@ -355,5 +339,6 @@ pub record DemandOne : Type 0 where
   pub of-door : DoorAnswers
   pub of-sound : SoundAnswers
   pub of-record : RecordAnswers
+  pub of-enums : EnumAnswers
   pub of-site : SiteAnswers
   pub of-run : RunAnswers

@@ -14,7 +14,7 @@ use Rattle.phases.specs.declared.table.Kind.{Kind}
 use Rattle.phases.specs.declared.table.Kind.the-variants.{Decide, Green, Red, Tick}
 use Rattle.phases.specs.declared.answer.Answer.the-variants.{Done, NotAllowed}
 use Rattle.record.specs.declared.steps.Step.{Step}
-use Rattle.record.specs.declared.questions.WayAnswer.the-variants.{Length}
+use Rattle.phases.specs.declared.answer.WayAnswer.the-variants.{Length}
 use Rattle.phases.specs.Phase.{granted, green, expired, denied, red, dimmed}
 use Rattle.door.specs.Door.{door}
 use Rattle.record.specs.Doors.{doorOf, Shaped}

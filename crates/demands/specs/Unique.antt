@@ -5,7 +5,8 @@ use Prim.Native.Nat.{ℕ}
 use mathlib.Core.Path.{_≡_}
 use mathlib.Core.Bool.{Bool}
 use mathlib.Core.List.{List}
-use lib.ListN.{getD, set}
+use lib.ListN.{length, getD, set}
+use lib.Dec.{ltb}
 use denote.Ref.{RefT, now}
 use Rattle.sheet.specs.declared.reader.Reader.{Reader}
 use Rattle.grammar.specs.declared.cut.Cell.{Cell}
@@ -20,6 +21,7 @@ use Rattle.grammar.specs.Past.{firstDataRow}
 use Rattle.sheet.specs.Reader.{readerAt, movedOn}
 use Rattle.grammar.specs.Say.{isWord, saysWords, numberAt}
 use Rattle.tables.specs.declared.Found.{Found}
+use Rattle.tables.specs.declared.Found.the-variants.{Nothing}
 use Rattle.tables.specs.declared.RightFound.{RightFound}
 use Rattle.tables.specs.declared.WayTold.{WayTold}
 use Rattle.tables.specs.Tables.{mayBe}
@@ -33,10 +35,10 @@ use Rattle.phases.specs.declared.answer.Answer.{Answer}
 use Rattle.record.specs.declared.steps.Step.{Step}
 use Rattle.record.specs.declared.steps.Told.{Told}
 use Rattle.record.specs.declared.series.Ran.{Ran}
-use Rattle.record.specs.declared.questions.PlaceAnswer.{PlaceAnswer}
-use Rattle.record.specs.declared.questions.GrantAnswer.{GrantAnswer}
-use Rattle.record.specs.declared.questions.WayAnswer.{WayAnswer}
-use Rattle.phases.specs.Answers.{answerNo}
+use Rattle.phases.specs.declared.answer.PlaceAnswer.{PlaceAnswer}
+use Rattle.phases.specs.declared.answer.GrantAnswer.{GrantAnswer}
+use Rattle.phases.specs.declared.answer.WayAnswer.{WayAnswer}
+use Rattle.phases.specs.Answers.{lengthTold, wayNo, grantTold, grantNo, placeTold, placeNo, answerNo}
 use Rattle.door.specs.declared.does.Does.{Does}
 use Rattle.phases.specs.Phase.{grants}
 use Rattle.door.specs.Door.{freeDoor, doorIn}
@@ -51,7 +53,8 @@ use Rattle.phases.specs.Table.{asked}
 use Rattle.record.specs.SoundTest.{soundB}
 use Rattle.record.specs.Steps.{First, stepOf, toldBy}
 use Rattle.record.specs.Run.{runOf, answersOf, phasesOf, reasonsOf}
-use Rattle.record.specs.Questions.{placeOf, grantedTo, wayAnswerOf, wayWritten}
+use Rattle.record.specs.Questions.{askedNo, unlessRefused, placeOf, grantedTo}
+use Rattle.record.specs.Questions.{wayAnswerOf, wayWritten, wayAskedNo}
 use Rattle.verdict.specs.declared.Verdict.{Verdict}
 use Rattle.site_sheet.specs.declared.SiteRead.{SiteRead}
 use Rattle.site_sheet.specs.Site.{siteOf, firstPlace, secondPlace}
@@ -62,10 +65,8 @@ use Rattle.run_text.specs.declared.text.Printed.{Printed}
 use Rattle.run_text.specs.Steps.{headingOf}
 use Rattle.run_text.specs.Printed.{panelText, whereText, printedOf, printedNo}
 use Rattle.run_text.specs.Printed as run
-
--- two answers that a promise allows are equal
-abbrev pub Unique : {A : Type 0} → (A → Type 0) → Type 0
-Unique {A} Promise = (x y : A) → Promise x → Promise y → x ≡ y
+use Rattle.demands.specs.Telling.{Unique}
+use Rattle.demands.specs.Answered.{EnumUnique}
 
 pub record SheetUnique : Type 0 where
   pub cut-field : (s : List ℕ) (at : ℕ) → Unique (λ (x : FieldCut). x ≡ cutField s at)
@@ -148,11 +149,25 @@ pub record RecordUnique : Type 0 where
       × (x .1 ≡ answersOf r steps doors persons answers phases reasons)
       × (x .2 ≡ phasesOf r steps doors persons answers phases reasons)
       × (x .3 ≡ reasonsOf r steps doors persons answers phases reasons))
-  pub place-of : (r : Record) (p : ℕ) → Unique (λ (x : PlaceAnswer). x ≡ placeOf r p)
-  pub granted-to : (r : Record) (p : ℕ) → Unique (λ (x : GrantAnswer). x ≡ grantedTo r p)
-  -- the answer, and the lent list at exit
+  -- the answer, its number and its value
+  pub place-of : (r : Record) (p : ℕ)
+      → Unique
+      (λ (x : PlaceAnswer).
+      (x ≡ placeOf r p) × (placeNo x ≡ askedNo r (ltb p (r .people))) × (placeTold x ≡ unlessRefused (placeNo x) (getD (r .place) p 0) 0))
+  pub granted-to : (r : Record) (p : ℕ)
+      → Unique
+      (λ (x : GrantAnswer).
+      (x ≡ grantedTo r p)
+      × (grantNo x ≡ askedNo r (ltb p (r .people)))
+      × (grantTold x ≡ unlessRefused (grantNo x) (grantOf (r .doors) (r .phase) (r .holder) p) Nothing))
+  -- the same, and the lent list at exit
   pub way-out : (r : Record) (l : ℕ) (list : List ℕ)
-      → Unique (λ (x : WayAnswer × List ℕ). (x .0 ≡ wayAnswerOf r l list) × (x .1 ≡ wayWritten r l list))
+      → Unique
+      (λ (x : WayAnswer × List ℕ).
+      (x .0 ≡ wayAnswerOf r l list)
+      × (wayNo (x .0) ≡ wayAskedNo r l list)
+      × (lengthTold (x .0) ≡ unlessRefused (wayNo (x .0)) (length (wayOf (r .locations) (r .exit) l)) 0)
+      × (x .1 ≡ wayWritten r l list))
 
 pub record SiteUnique : Type 0 where
   pub read-site : (s : List ℕ) → Unique (λ (x : SiteRead). x ≡ siteOf s)
@@ -182,6 +197,7 @@ pub record AnswersUnique : Type 0 where
   pub of-door : DoorUnique
   pub of-sound : SoundUnique
   pub of-record : RecordUnique
+  pub of-enums : EnumUnique
   pub of-site : SiteUnique
   pub of-run : RunUnique
   pub of-the-papers : PapersUnique

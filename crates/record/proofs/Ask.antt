@@ -17,8 +17,8 @@ use Rattle.tables.specs.Rules.{SafeWay}
 use Rattle.tables.proofs.Laws.{clash, and-left, and-right}
 use Rattle.tables.proofs.WayOut.{way-is-safe, way-at-most-31}
 use Rattle.record.specs.declared.record.Record.{Record}
-use Rattle.record.specs.declared.questions.PlaceAnswer.the-variants as place
-use Rattle.record.specs.declared.questions.GrantAnswer.the-variants as grant
+use Rattle.phases.specs.declared.answer.PlaceAnswer.the-variants as place
+use Rattle.phases.specs.declared.answer.GrantAnswer.the-variants as grant
 use Rattle.record.specs.Doors.{Shaped}
 use Rattle.granting.specs.Grants.{GrantAt}
 use Rattle.record.specs.Sound.{rightAt, Sound}

@@ -7,9 +7,6 @@ pub mod record;
 pub mod series;
 pub mod steps;
 
-pub use crate::questions::GrantAnswer;
-pub use crate::questions::PlaceAnswer;
-pub use crate::questions::WayAnswer;
 pub use crate::record::Record;
 pub use crate::series::Ran;
 pub use crate::steps::Step;

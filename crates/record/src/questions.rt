@@ -1,35 +1,21 @@
 // The three questions: where is a person, which door is granted to a person, and the way out of a
 // location. Each answers 14, then 11, then 13.
 ghost use mathlib.Core.Path.{_≡_};
-ghost use Rattle.record.specs.Questions.{placeOf, grantFound, grantedTo, wayFound, wayAnswerOf, wayWritten};
+ghost use lib.ListN.{length, getD};
+ghost use lib.Dec.{ltb};
+ghost use Rattle.tables.specs.Way.{wayOf};
+ghost use Rattle.granting.specs.Grants.{grantOf};
+ghost use Rattle.phases.specs.Answers.{placeNo, placeTold, grantNo, grantTold, wayNo, lengthTold};
+ghost use Rattle.record.specs.Questions.{askedNo, unlessRefused, placeOf, grantFound, grantedTo};
+ghost use Rattle.record.specs.Questions.{wayFound, wayAnswerOf, wayWritten, wayAskedNo};
 use crate::record::Record;
 use granting::grant_of;
+use phases::answer::GrantAnswer;
+use phases::answer::PlaceAnswer;
+use phases::answer::WayAnswer;
 use tables::Found;
 use tables::WayTold;
 use tables::lists::byte_at;
-
-// Where a person is.
-pub enum PlaceAnswer {
-    At(u8),
-    NoSuch,
-    Unsound,
-}
-
-// Which door is granted to a person.
-pub enum GrantAnswer {
-    Door(usize),
-    Nothing,
-    NoSuch,
-    Unsound,
-}
-
-// How long the way out of a location is.
-pub enum WayAnswer {
-    Length(usize),
-    NoSuch,
-    TooShort,
-    Unsound,
-}
 
 // The answer where this door, or none, was found.
 fn grant_told(found: Found) -> GrantAnswer
@@ -54,7 +40,9 @@ fn way_told(told: WayTold) -> WayAnswer
 impl Record {
     // Where is this person?
     pub fn place_of(self, person: usize) -> PlaceAnswer
-        ensures { λ r. ⌜ r ≡ placeOf self person ⌝ }
+        ensures answer { λ r. ⌜ r ≡ placeOf self person ⌝ }
+        ensures number { λ r. ⌜ placeNo r ≡ askedNo self (ltb person (self .people)) ⌝ }
+        ensures place { λ r. ⌜ placeTold r ≡ unlessRefused (placeNo r) (getD (self .place) person 0) 0 ⌝ }
     {
         if !self.is_sound() {
             return PlaceAnswer::Unsound;
@@ -67,7 +55,9 @@ impl Record {
 
     // Which door is granted to this person?
     pub fn granted_to(self, person: usize) -> GrantAnswer
-        ensures { λ r. ⌜ r ≡ grantedTo self person ⌝ }
+        ensures answer { λ r. ⌜ r ≡ grantedTo self person ⌝ }
+        ensures number { λ r. ⌜ grantNo r ≡ askedNo self (ltb person (self .people)) ⌝ }
+        ensures door { λ r. ⌜ grantTold r ≡ unlessRefused (grantNo r) (grantOf (self .doors) (self .phase) (self .holder) person) Found.Nothing ⌝ }
     {
         if !self.is_sound() {
             return GrantAnswer::Unsound;
@@ -80,7 +70,9 @@ impl Record {
 
     // The way out of this location, written into the front of the list.
     pub fn way_out(self, location: usize, list: &mut [u8]) -> WayAnswer
-        ensures told { λ r. ⌜ r ≡ wayAnswerOf self location (now (list .entry)) ⌝ }
+        ensures answer { λ r. ⌜ r ≡ wayAnswerOf self location (now (list .entry)) ⌝ }
+        ensures number { λ r. ⌜ wayNo r ≡ wayAskedNo self location (now (list .entry)) ⌝ }
+        ensures length { λ r. ⌜ lengthTold r ≡ unlessRefused (wayNo r) (length (wayOf (self .locations) (self .exit) location)) 0 ⌝ }
         ensures written { λ _. ⌜ now (list .exit) ≡ wayWritten self location (now (list .entry)) ⌝ }
     {
         if !self.is_sound() {

@@ -1,21 +1,22 @@
 -- The number of a verdict and its places. 01, "Numbers given back".
 use Prim.Native.Nat.{ℕ}
+use Rattle.numbers.specs.Numbers.{doneNo, tooLongNo, badFormNo, outOfRangeNo, twiceNo, noSiteNo, noExitNo, strayNo, noDoorNo, noRightNo, shutOutNo}
 use Rattle.verdict.specs.declared.Verdict.{Verdict}
 use Rattle.verdict.specs.declared.Verdict.the-variants.{Accepted, TooLong, BadRow, OutOfRange, Twice, NoSite, NoExit, Stray, NoDoor, NoRight, ShutOut}
 
 -- the table "Numbers given back", columns "No." and "Place told"
 abbrev pub verdictNo : Verdict → ℕ
-verdictNo Accepted = 0
-verdictNo TooLong = 1
-verdictNo (BadRow n) = 2
-verdictNo (OutOfRange n) = 3
-verdictNo (Twice n) = 4
-verdictNo NoSite = 5
-verdictNo (NoExit l) = 6
-verdictNo (Stray l) = 7
-verdictNo (NoDoor l) = 8
-verdictNo (NoRight p l) = 9
-verdictNo (ShutOut p) = 10
+verdictNo Accepted = doneNo
+verdictNo TooLong = tooLongNo
+verdictNo (BadRow n) = badFormNo
+verdictNo (OutOfRange n) = outOfRangeNo
+verdictNo (Twice n) = twiceNo
+verdictNo NoSite = noSiteNo
+verdictNo (NoExit l) = noExitNo
+verdictNo (Stray l) = strayNo
+verdictNo (NoDoor l) = noDoorNo
+verdictNo (NoRight p l) = noRightNo
+verdictNo (ShutOut p) = shutOutNo
 
 abbrev pub firstPlace : Verdict → ℕ
 firstPlace Accepted = 0

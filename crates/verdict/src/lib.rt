@@ -2,19 +2,31 @@
 // definitions are in specs/, in the words of paper 01, "Numbers given back".
 ghost use mathlib.Core.Path.{_≡_};
 ghost use Rattle.verdict.specs.Numbers.{verdictNo, firstPlace, secondPlace};
+use numbers::Paper;
 
 // What is said of a sheet, with the place that is told.
 pub enum Verdict {
+    // 0: the sheet obeys every rule
     Accepted,
+    // 1: the sheet is over the limit
     TooLong,
+    // 2: this row is of bad form, or of an unknown kind; row 0 is a wrong header
     BadRow(usize),
+    // 3: a number of this row is out of range, or its door is one too many or leads to where it starts
     OutOfRange(usize),
+    // 4: this row says again what was said before
     Twice(usize),
+    // 5: the first data row isn't a `site` row, or there is none
     NoSite,
+    // 6: this location has no exit
     NoExit(usize),
+    // 7: the exits from this location never reach 0
     Stray(usize),
+    // 8: the exit of this location has no door
     NoDoor(usize),
+    // 9: this person has a right to this location, and none to its exit
     NoRight(usize, usize),
+    // 10: this person has no first location from outside
     ShutOut(usize),
 }
 
@@ -24,17 +36,17 @@ impl Verdict {
         ensures { λ r. ⌜ r ≡ verdictNo self ⌝ }
     {
         match self {
-            Verdict::Accepted => 0,
-            Verdict::TooLong => 1,
-            Verdict::BadRow(_) => 2,
-            Verdict::OutOfRange(_) => 3,
-            Verdict::Twice(_) => 4,
-            Verdict::NoSite => 5,
-            Verdict::NoExit(_) => 6,
-            Verdict::Stray(_) => 7,
-            Verdict::NoDoor(_) => 8,
-            Verdict::NoRight(_, _) => 9,
-            Verdict::ShutOut(_) => 10,
+            Verdict::Accepted => Paper::DONE,
+            Verdict::TooLong => Paper::TOO_LONG,
+            Verdict::BadRow(_) => Paper::BAD_FORM,
+            Verdict::OutOfRange(_) => Paper::OUT_OF_RANGE,
+            Verdict::Twice(_) => Paper::TWICE,
+            Verdict::NoSite => Paper::NO_SITE,
+            Verdict::NoExit(_) => Paper::NO_EXIT,
+            Verdict::Stray(_) => Paper::STRAY,
+            Verdict::NoDoor(_) => Paper::NO_DOOR,
+            Verdict::NoRight(_, _) => Paper::NO_RIGHT,
+            Verdict::ShutOut(_) => Paper::SHUT_OUT,
         }
     }
 

@@ -2,6 +2,7 @@
 use mathlib.Core.Path.{ap, _∙_}
 use Rattle.record.specs.Questions.{grantFound, grantedTo}
 use Rattle.tables.proofs.Cases.{picks}
+use Rattle.record.proofs.Asked.{grant-as-said}
 use borrow.Author.Needs.{needs}
 use Rattle.record.proofs.record.Record.granted_to.Statement.{statement}
 use Rattle.record.proofs.record.Record.granted_to.Tie as tie
@@ -11,11 +12,11 @@ is-sound-requires c κs = search needs
 
 returns : tie.Need-returns
 unfolding grantedTo
-returns c = search picks depth 7
+returns c = grant-as-said _ _ _ (search picks depth 7)
 
 returns-2 : tie.Need-returns-2
 unfolding grantedTo
-returns-2 c = search picks depth 7
+returns-2 c = grant-as-said _ _ _ (search picks depth 7)
 
 grant-of-requires : tie.Need-grant-of-requires
 grant-of-requires c κs = search needs
@@ -25,7 +26,7 @@ grant-told-requires c κs = search needs
 
 returns-3 : tie.Need-returns-3
 unfolding grantedTo
-returns-3 c = let is = c .grant-told .ensures ∙ ap grantFound (c .before .grant-of .ensures) in search picks depth 7
+returns-3 c = let is = c .grant-told .ensures ∙ ap grantFound (c .before .grant-of .ensures) in grant-as-said _ _ _ (search picks depth 7)
 
 pub granted-to-spec : {M : Type 1} → statement M
 granted-to-spec =

@@ -2,6 +2,7 @@
 use mathlib.Core.Path.{ap, _∙_}
 use Rattle.record.specs.Questions.{wayFound, wayAnswerOf, wayWritten}
 use Rattle.tables.proofs.Cases.{picks}
+use Rattle.record.proofs.Asked.{way-as-said}
 use borrow.Author.Needs.{needs}
 use Rattle.record.proofs.record.Record.way_out.Statement.{statement}
 use Rattle.record.proofs.record.Record.way_out.Tie as tie
@@ -11,11 +12,11 @@ is-sound-requires c κs = search needs
 
 returns : tie.Need-returns
 unfolding wayAnswerOf wayWritten
-returns c = search picks depth 7
+returns c = way-as-said _ _ _ _ _ (search picks depth 7) (search picks depth 7)
 
 returns-2 : tie.Need-returns-2
 unfolding wayAnswerOf wayWritten
-returns-2 c = search picks depth 7
+returns-2 c = way-as-said _ _ _ _ _ (search picks depth 7) (search picks depth 7)
 
 way-out-requires : tie.Need-way-out-requires
 way-out-requires c κs = search needs
@@ -31,7 +32,7 @@ unfolding wayAnswerOf wayWritten
 returns-3 c =
     let told = c .way-told .ensures ∙ ap wayFound (c .before .before .before .way-out .ensures .0) in
     let written = c .before .before .before .way-out .ensures .1 in
-    (search picks depth 7, search picks depth 7)
+    way-as-said _ _ _ _ _ (search picks depth 7) (search picks depth 7)
 
 pub way-out-spec : {M : Type 1} → statement M
 way-out-spec =

@@ -1,0 +1,2 @@
+-- `Numbers`: the papers' numbers, each under one name.
+pub mod Numbers
