@@ -1,15 +1,10 @@
-"""Holds the reference to what paper 01 prints, and the file `stdout` of `site_cases` to the reference.
+"""Holds the reference to what paper 01 prints: its whole run, `where`, and the twelve cases, copied from the paper by hand.
 
-What is expected of the reference is copied from the paper by hand: its whole run, `where`, and the twelve cases. What is
-expected of `site_cases` is worked out by the reference from the sheets that stand in that program, so the gate's comparison
-of the program with its `stdout` is one with the paper. Run it from anywhere.
+Run it from anywhere.
 """
-import ast
-import os
-import re
 import sys
 
-from panel import EXPIRED, GREEN, Panel, Refused, panel_text, read_site, where_text
+from panel import EXPIRED, GREEN, Panel, panel_text, read_site, verdict, where_text
 
 SITE = ["site,2,3", "door,0,1", "door,1,2", "door,2,1", "door,1,0", "exit,1,0", "exit,2,1", "right,0,1", "right,0,2", "right,1,1"]
 STEPS = ["card,0,0", "decide,0,", "green,0,", "walk,0,", "card,1,0", "decide,1,", "passed,0,", "red,1,", "decide,0,", "card,9,0"]
@@ -30,15 +25,6 @@ def sheet(header, data):
 
 def site_sheet(without=(), instead=None):
     return sheet("kind,a,b", [(instead or {}).get(row, row) for row in SITE if row not in without])
-
-
-def verdict(text):
-    """The number and the two places that a site sheet is told."""
-    try:
-        read_site(text)
-        return 0, 0, 0
-    except Refused as refused:
-        return refused.number, refused.place, refused.second
 
 
 def whole_run():
@@ -79,23 +65,9 @@ def twelve_cases():
     expect("case 12", site.way_out(2), [1, 0])
 
 
-def site_cases(folder):
-    """Each byte string lent to `show` in the program, through the reference, against the program's file `stdout`."""
-    with open(os.path.join(folder, "src", "main.rt"), encoding="utf-8") as file:
-        shown = re.findall(r'show\(\s*(b"(?:[^"\\]|\\.)*")', file.read())
-    with open(os.path.join(folder, "stdout"), encoding="utf-8") as file:
-        told = file.read().splitlines()
-    expect("site_cases: sheets shown, for the lines of stdout", len(shown), len(told))
-    for i, (literal, line) in enumerate(zip(shown, told)):
-        expect(f"site_cases, sheet {i + 1}", line, ",".join(map(str, verdict(ast.literal_eval(literal)))))
-    return len(shown)
-
-
 whole_run()
 twelve_cases()
-here = os.path.dirname(os.path.abspath(__file__))
-count = site_cases(os.path.join(here, "..", "..", "crates", "site_cases"))
 for fault in faults:
     print("reference:", fault)
-print(f"reference: the paper's run, its 12 cases and {count} sheets of site_cases, {len(faults)} faults")
+print(f"reference: the paper's run and its 12 cases, {len(faults)} faults")
 sys.exit(1 if faults else 0)

@@ -1,7 +1,8 @@
 """The panel once more, in plain Python and from paper 01 alone: what the tests expect is made here.
 
-It imports nothing of the project and shares no text with it. `read_site` is the section "Site sheet" with "Numbers given
-back", `Panel` the sections "The record" and "Steps", `panel_text` and `where_text` the section "Program and one whole run".
+It imports nothing of the project and shares no text with it. `read_site` and `verdict` are the section "Site sheet" with
+"Numbers given back", `Panel` the sections "The record" and "Steps", `panel_text` and `where_text` the section "Program and one
+whole run".
 """
 
 LONGEST_SHEET = 49152
@@ -155,6 +156,15 @@ def read_site(sheet):
         raise Refused(5, 1)
     site.whole_sheet_rules()
     return site
+
+
+def verdict(sheet):
+    """The number that a site sheet is told and its two places; "unused place numbers are 0"."""
+    try:
+        read_site(sheet)
+        return 0, 0, 0
+    except Refused as refused:
+        return refused.number, refused.place, refused.second
 
 
 class Panel:

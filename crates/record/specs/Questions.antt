@@ -59,4 +59,3 @@ wayWritten r l list = cond (soundB r) (cond (ltb l (r .locations)) (wayWrittenIn
 unfoldable pub wayAskedNo : Record → ℕ → List ℕ → ℕ
 wayAskedNo r l list =
     unlessRefused (askedNo r (ltb l (r .locations))) (wayToldNo (wayToldIn (wayOf (r .locations) (r .exit) l) list)) (askedNo r (ltb l (r .locations)))
-

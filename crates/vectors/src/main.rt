@@ -1,21 +1,25 @@
-// `vectors`: runs numbered pairs of sheets and prints what `panel` and `where` would. The pairs are the files NNN-site.csv and
-// NNN-steps.csv of the folder that it is run in, from 000 on; its argument says how many there are. For each it prints a line
-// `case NNN` and the two texts. Behind each text of a steps sheet of at most 1,024 bytes stands what a list gives that is one
-// byte too short for it (13, and no byte of the list is altered) and one that is just long enough (0, and the text).
-// tests/make-vectors makes the sheets, and from the papers' reference what is expected.
+// `vectors`: runs numbered pairs of sheets and prints what they are told. The pairs are the files NNNN-site.csv and
+// NNNN-steps.csv of the folder that it is run in, from 0000 on; the last pair is the first of which neither file is there. For
+// each it prints a line `case NNNN`, a line `site,number,place,second` with what the site sheet is told, and the texts of `panel`
+// and `where`. Behind each text of a steps sheet of at most 1,024 bytes stands what a list gives that is one byte too short for
+// it (13, and no byte of the list is altered) and one that is just long enough (0, and the text). tests/make-vectors makes the
+// sheets, and from the papers' reference what is expected.
 use libc::STDOUT_FILENO;
 use run::text::MOST_PANEL_TEXT;
 use run::text::panel_text;
 use run::text::where_text;
 use run_text::text::Printed;
 use sheet_files::ROOM;
-use sheet_files::number_asked;
 use sheet_files::read_sheet;
+use site::read::read_site;
 
 // The longest steps sheet whose texts also go into lists of their own length, and room for those.
 const MOST_SHORT: usize = 1024;
 
 const MOST_LENT: usize = 2048;
+
+// How many pairs four digits can number.
+const MOST_CASES: usize = 10000;
 
 // Which of the two texts.
 enum Text {
@@ -106,36 +110,64 @@ fn show<'a>(text: Text, site: &'a [u8], steps: &'a [u8]) {
     }
 }
 
-fn run_case(n: usize) {
-    let hundreds = digit(n / 100);
-    let tens = digit(n / 10);
-    let ones = digit(n);
-    let mut site_name = *b"NNN-site.csv";
-    site_name[0] = hundreds;
-    site_name[1] = tens;
-    site_name[2] = ones;
-    let mut steps_name = *b"NNN-steps.csv";
-    steps_name[0] = hundreds;
-    steps_name[1] = tens;
-    steps_name[2] = ones;
-    let mut title = *b"case NNN\r\n";
-    title[5] = hundreds;
-    title[6] = tens;
-    title[7] = ones;
+// What the site sheet is told: the paper's number, the place told with it and the second place.
+fn write_verdict(site: &[u8]) {
+    let answer = read_site(site);
+    let verdict = answer.verdict;
+    io::write_all(STDOUT_FILENO, b"site,");
+    io::print_decimal(STDOUT_FILENO, verdict.number() as u64);
+    io::write_all(STDOUT_FILENO, b",");
+    io::print_decimal(STDOUT_FILENO, verdict.place() as u64);
+    io::write_all(STDOUT_FILENO, b",");
+    io::print_decimal(STDOUT_FILENO, verdict.second_place() as u64);
+    io::write_all(STDOUT_FILENO, b"\r\n");
+}
+
+fn is_there(name: &[u8]) -> bool {
+    let file = os::open_read(name);
+    if file < 0 {
+        return false;
+    }
+    libc::close(file);
+    true
+}
+
+// What a pair of sheets is told; answers whether one of the two files is there.
+fn run_pair<'a>(site_name: &'a [u8], steps_name: &'a [u8]) -> bool {
     let mut site = [0u8; ROOM];
     let mut steps = [0u8; ROOM];
-    let in_site = read_sheet(&site_name, &mut site);
-    let in_steps = read_sheet(&steps_name, &mut steps);
-    io::write_all(STDOUT_FILENO, &title);
+    let in_site = read_sheet(site_name, &mut site);
+    let in_steps = read_sheet(steps_name, &mut steps);
+    write_verdict(&site[..in_site]);
     show(Text::Panel, &site[..in_site], &steps[..in_steps]);
     show(Text::Where, &site[..in_site], &steps[..in_steps]);
+    is_there(site_name) || is_there(steps_name)
+}
+
+fn run_case(n: usize) -> bool {
+    let number = [digit(n / 1000), digit(n / 100), digit(n / 10), digit(n)];
+    let mut site_name = *b"NNNN-site.csv";
+    site_name[0] = number[0];
+    site_name[1] = number[1];
+    site_name[2] = number[2];
+    site_name[3] = number[3];
+    let mut steps_name = *b"NNNN-steps.csv";
+    steps_name[0] = number[0];
+    steps_name[1] = number[1];
+    steps_name[2] = number[2];
+    steps_name[3] = number[3];
+    io::write_all(STDOUT_FILENO, b"case ");
+    io::write_all(STDOUT_FILENO, &number);
+    io::write_all(STDOUT_FILENO, b"\r\n");
+    run_pair(&site_name, &steps_name)
 }
 
 fn main() {
-    let cases = number_asked(0);
     let mut n = 0;
-    while n < cases {
-        run_case(n);
+    while n < MOST_CASES {
+        if !run_case(n) {
+            return;
+        }
         n += 1;
     }
 }

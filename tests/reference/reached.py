@@ -1,0 +1,133 @@
+"""What the cases of `vectors` have to reach, said from paper 01 alone, and what a case reaches by the reference.
+
+What is reached is a sentence: what a site sheet is told and where, how a steps sheet ends, or what a step is answered. `wanted`
+has all such that 01 allows, so a case that reaches anything else is a fault too.
+"""
+from panel import (CLOSED, DENIED, DIMMED, EXPIRED, FREE, GRANTED, GREEN, LONGEST_SHEET, READ, RED, STEPS, WALKED, Panel, Refused,
+                   read_site, rows, step_of)
+
+# A sheet may be as long as the first, and not as long as the second.
+LIMITS = (LONGEST_SHEET, LONGEST_SHEET + 1)
+
+# The first place that a number can be told with: the header, the first or the second data row, location 1, person 0.
+FIRST_PLACES = {2: 0, 3: 1, 4: 2, 6: 1, 7: 1, 8: 1, 9: 0, 10: 0}
+
+# 01, "Steps": for each step the phases that allow it, each with those that it leads to. A `tick` alters nothing in any other.
+LEADS = {"card": {FREE: [READ]}, "decide": {READ: [GRANTED, DENIED]}, "green": {GRANTED: [GREEN], GREEN: [GREEN]},
+         "red": {DENIED: [RED], RED: [RED]}, "walk": {GREEN: [WALKED]}, "tick": {GREEN: [GREEN, EXPIRED], RED: [RED, DIMMED]},
+         "passed": {WALKED: [CLOSED]}, "lapsed": {EXPIRED: [CLOSED]}, "dark": {DIMMED: [CLOSED]}, "ack": {CLOSED: [FREE]}}
+
+
+# ---- The sentences
+
+def sized(kind, length):
+    return f"a {kind} sheet of {length} bytes"
+
+
+def site_told(number, place):
+    later = number in FIRST_PLACES and place != FIRST_PLACES[number]
+    return f"a site sheet told {number} at {'a later' if later else 'the first'} place"
+
+
+def nine_told(location):
+    return f"a site sheet told 9 at {'a later' if location > 1 else 'the first'} location"
+
+
+def steps_told(what):
+    return f"a steps sheet {what}"
+
+
+def in_phase(phase):
+    return f"in phase {phase}"
+
+
+def answered(name, where, answer, after, reason):
+    return f"`{name}` {where} answered {answer},{after},{reason}"
+
+
+def denied_for(phase):
+    return f"a denial by reason 3 for a grant in phase {phase}"
+
+
+def put_out(phase):
+    return f"a light in phase {phase} that was set again and then burned its span"
+
+
+# ---- What 01 allows
+
+def wanted_of_sites():
+    yield from (site_told(number, FIRST_PLACES.get(number, 0)) for number in range(11))
+    yield from (site_told(number, place + 1) for number, place in FIRST_PLACES.items())
+    yield from (nine_told(location) for location in (1, 2))
+    yield from (sized("site", length) for length in LIMITS)
+
+
+def wanted_of_steps():
+    yield from (steps_told(what) for what in ("over the limit", "of a wrong header", "with a row of bad form", "run to its end"))
+    yield from (sized("steps", length) for length in LIMITS)
+    yield from (denied_for(phase) for phase in (GRANTED, GREEN, WALKED, EXPIRED))
+    yield from (put_out(phase) for phase in (GREEN, RED))
+    yield from (answered(name, "at no door", 11, 0, 0) for name in STEPS)
+    for phase in range(10):
+        yield answered("card", in_phase(phase), 11, 0, 0)
+        for name in STEPS:
+            if phase not in LEADS[name]:
+                yield answered(name, in_phase(phase), 0 if name == "tick" else 12, phase, 0)
+            for after in LEADS[name].get(phase, []):
+                reasons = (1, 2, 3) if after == DENIED else (0,)
+                yield from (answered(name, in_phase(phase), 0, after, reason) for reason in reasons)
+
+
+def wanted():
+    return set(wanted_of_sites()) | set(wanted_of_steps())
+
+
+# ---- What a case reaches
+
+def reached_by_step(panel, again, name, door, person):
+    """What a step reaches; `again` has the doors whose light was set again while it burned."""
+    if door >= len(panel.phase):
+        yield answered(name, "at no door", *panel.step(name, door, person))
+        return
+    before, held = panel.phase[door], panel.holds[door]
+    answer, after, reason = panel.step(name, door, person)
+    yield answered(name, in_phase(before), answer, after, reason)
+    if reason == 3:
+        yield denied_for(panel.phase[panel.granted_to(held)])
+    if answer == 0 and name in ("green", "red"):
+        (again.add if before == after else again.discard)(door)
+    if (before, after) in ((GREEN, EXPIRED), (RED, DIMMED)) and door in again:
+        yield put_out(before)
+
+
+def reached_by_steps(site, sheet):
+    if len(sheet) in LIMITS:
+        yield sized("steps", len(sheet))
+    if len(sheet) > LONGEST_SHEET:
+        yield steps_told("over the limit")
+        return
+    cut, panel, again = list(rows(sheet)), Panel(site), set()
+    if cut[:1] != [[b"step", b"door", b"person"]]:
+        yield steps_told("of a wrong header")
+        return
+    for step in map(step_of, cut[1:]):
+        if step is None:
+            yield steps_told("with a row of bad form")
+            return
+        yield from reached_by_step(panel, again, *step)
+    yield steps_told("run to its end")
+
+
+def reached(site_sheet, steps_sheet):
+    """What two sheets reach."""
+    if len(site_sheet) in LIMITS:
+        yield sized("site", len(site_sheet))
+    try:
+        site = read_site(site_sheet)
+    except Refused as refused:
+        yield site_told(refused.number, refused.place)
+        if refused.number == 9:
+            yield nine_told(refused.second)
+        return
+    yield site_told(0, 0)
+    yield from reached_by_steps(site, steps_sheet)
