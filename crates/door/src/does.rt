@@ -7,11 +7,13 @@ use phases::phase::Phase;
 use phases::phase::Span;
 use phases::table::Kind;
 
-// Nothing; the door becomes so, with the reason that is told; or the door becomes so, and the person
-// whom it held is in its destination.
+// What a step does to its door.
 pub enum Does {
+    // nothing
     Stays,
+    // the door becomes so, with the reason that is told
     Turns(Door, u8),
+    // the door becomes so, and the person whom it held is in its destination
     Moves(Door),
 }
 

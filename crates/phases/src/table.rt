@@ -6,16 +6,27 @@ use crate::phase::Phase;
 
 // The ten steps. A number that names none of them is an unknown step, which no phase allows.
 pub enum Kind {
+    // a card is shown, and the door holds its person
     Card,
+    // the card is granted or denied
     Decide,
+    // the green light is ordered
     Green,
+    // the red light is ordered
     Red,
+    // the person walks through
     Walk,
+    // a tenth of a second of the door's own clock
     Tick,
+    // the passage is recorded, and the person is in the destination
     Passed,
+    // the lapse is recorded, and the person is dropped
     Lapsed,
+    // the red light is out
     Dark,
+    // the door is free again
     Ack,
+    // no step
     Unknown,
 }
 

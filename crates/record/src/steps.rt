@@ -40,11 +40,13 @@ pub struct Told {
     pub reason: u8,
 }
 
-// What is done at a door: nothing, with the answer and the phase that are told; the door becomes so,
-// with the reason that is told; or the door becomes so, and this person is in this location.
+// What is done at a door.
 pub(crate) enum Deed {
+    // nothing; this answer and this phase are told
     Tells(Answer, u8),
+    // the door becomes so, and this reason is told
     Puts(Door, u8),
+    // the door becomes so, and this person is in this location
     Leads(Door, usize, u8),
 }
 

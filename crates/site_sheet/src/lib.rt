@@ -9,19 +9,29 @@ use verdict::Verdict;
 
 // The first field of a row.
 pub enum Word {
+    // `site`
     Site,
+    // `door`
     Door,
+    // `exit`
     Exit,
+    // `right`
     Right,
+    // none of these
     Unknown,
 }
 
 // A row, or that it is of bad form.
 pub enum SiteLine {
+    // so many people and so many locations
     Site(usize, usize),
+    // a door from one location to another
     Door(usize, usize),
+    // a location, and the one to which it is signed
     Exit(usize, usize),
+    // a person, and a location where they may be
     Right(usize, usize),
+    // it is of bad form
     Bad,
 }
 

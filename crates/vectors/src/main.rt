@@ -23,7 +23,9 @@ const MOST_CASES: usize = 10000;
 
 // Which of the two texts.
 enum Text {
+    // what `panel` prints
     Panel,
+    // what `where` prints
     Where,
 }
 
