@@ -118,12 +118,39 @@ def check_paths():
                 faults.append(f"{page} names {path}, which is not there")
 
 
+def defines(text, name):
+    """Whether a file of definitions or theorems has this name as one of its own that others can use."""
+    return re.search(r"^\s*(?:(?:abbrev|unfoldable) )?pub (?:data |record )?%s[ :]" % re.escape(name), text, re.M)
+
+
+def check_rules():
+    """Each rule of docs/RULES.md has the next number, and each definition and theorem that it names stands in the file beside it."""
+    page = read("docs", "RULES.md")
+    rules = re.findall(r"^\| (\d+) \| ([^|]*) \| ([^|]*) \| ([^|]*) \|$", page, re.M)
+    for n, (number, rule, definition, theorem) in enumerate(rules, 1):
+        if int(number) != n:
+            faults.append(f"docs/RULES.md: rule {number} stands where rule {n} should")
+        if " in `" not in definition:
+            faults.append(f"docs/RULES.md: rule {number} names no definition")
+        if " in `" not in theorem and theorem != "by the promise":
+            faults.append(f"docs/RULES.md: rule {number} names no theorem")
+    for names, path in re.findall(r"((?:`[^`]+`[ ,]*(?:and )?(?:those between )?)+)in `([a-z_]+/(?:specs|proofs)/\w+\.antt)`", page):
+        file = os.path.join("crates", path)
+        if not os.path.exists(file):
+            faults.append(f"docs/RULES.md names crates/{path}, which is not there")
+            continue
+        for name in re.findall(r"`([^`]+)`", names):
+            if not defines(read(file), name):
+                faults.append(f"docs/RULES.md names {name} in crates/{path}, which does not have it")
+
+
 def main():
     listed = crates()
     check_edits(listed)
     check_promises(listed)
     check_map(listed)
     check_paths()
+    check_rules()
     for fault in faults:
         print(fault)
     print(f"documents: {len(listed)} crates, {len(faults)} faults")
