@@ -1,0 +1,114 @@
+-- One step of a record, done or refused: its event is the one seen in the record, and the spells agree with the record after it.
+-- Assumes nothing.
+use Prim.Native.Nat.{ℕ}
+use mathlib.Core.Path.{_≡_, refl, sym, ap, subst, _∙_}
+use mathlib.Core.Bool.{Bool, true, false, cond}
+use mathlib.Core.Logic.{⊎-elim}
+use mathlib.Core.List.{List, [], map}
+use borrow.Author.Tests.{eq-eqb, ne-eqb}
+use lib.ListN.{getD}
+use lib.Dec.{eqb}
+use Rattle.tables.proofs.Cases.{same-or-not}
+use Rattle.door.specs.declared.does.Does.{Does}
+use Rattle.door.specs.declared.does.Does.the-variants.{Stays, Turns, Moves}
+use Rattle.phases.specs.declared.answer.Answer.{Answer}
+use Rattle.phases.specs.declared.answer.Answer.the-variants.{Done, NoSuch, NotAllowed, TooShort, Unsound}
+use Rattle.phases.specs.Answers.{answerNo}
+use Rattle.phases.specs.Kinds.{StepRow}
+use Rattle.record.specs.declared.record.Record.{Record}
+use Rattle.record.specs.declared.steps.Step.{Step}
+use Rattle.record.specs.Doors.{doorOf, Shaped}
+use Rattle.record.specs.Sound.{Sound}
+use Rattle.record.specs.Steps.{reasonFor, act, refused, doing, stepOf}
+use Rattle.record.specs.Run.{Reply, replyBy, rowOf}
+use Rattle.record.proofs.Laws.{Allowed, step-cases, allowed-does, others-stay, door-after, act-done, becomes}
+use Rattle.run_events.specs.Lines.{Line}
+use Rattle.run_events.specs.Events.{RunEvent, event, Nothing, meaningBy, meaningOf, Spell, spellBy, spellsAfter, eventBy}
+use Rattle.run_events.specs.Told.{standing, standingAt, Agree, whatBy, seenAt}
+use Rattle.run_events.proofs.Doors.{doneReply, Follows, follows}
+
+-- the line of a step and what it handed back
+abbrev pub lineOf : StepRow → Step → Line
+lineOf row s = record { row = row; reply = replyBy s }
+
+act-reply : (r : Record) (d : ℕ) (x : Does) → replyBy (act r d x) ≡ doneReply (doorOf r d) x
+unfolding act
+act-reply r d Stays = refl
+act-reply r d (Turns c why) = refl
+act-reply r d (Moves c) = refl
+
+pub not-done : (a : Answer) → (a ≡ Done → ⊥) → eqb (answerNo a) 0 ≡ false
+not-done Done no-way = absurd (no-way refl)
+not-done NoSuch no-way = refl
+not-done NotAllowed no-way = refl
+not-done TooShort no-way = refl
+not-done Unsound no-way = refl
+
+-- the spell at the door of a line, and at any other
+module _ (spells : ℕ → Spell) (n : ℕ) (line : Line) (d : ℕ) where
+  after-here : d ≡ line .row .at → spellsAfter spells n line d ≡ spellBy (meaningOf line) n (line .row .person) (spells d)
+  unfolding spellsAfter
+  after-here e = rw (eq-eqb d (line .row .at) e)
+
+  after-there : (d ≡ line .row .at → ⊥) → spellsAfter spells n line d ≡ spells d
+  unfolding spellsAfter
+  after-there ne = rw (ne-eqb d (line .row .at) ne)
+
+  -- a line that means nothing is no change
+  pub after-nothing : meaningOf line ≡ Nothing → spellsAfter spells n line d ≡ spells d
+  unfolding spellBy
+  after-nothing nothing = ⊎-elim (λ is. after-here is ∙ rw nothing) after-there (same-or-not d (line .row .at))
+
+-- what is told of a step of row n that handed back z, and what is seen of it
+pub record Tells (spells : ℕ → Spell) (n : ℕ) (r : Record) (row : StepRow) (z : Step) : Type 0 where
+  pub seen : eventBy (meaningOf (lineOf row z)) n (row .at) (spells (row .at) .person)
+      ≡ cond (eqb (answerNo (z .answer)) 0) (map (event n (row .at) (getD (r .holder) (row .at) 0)) (whatBy (row .kind) (reasonFor r (row .at) (getD (r .holder) (row .at) 0)))) []
+  pub after : Agree (spellsAfter spells n (lineOf row z)) (z .next)
+
+module _ (spells : ℕ → Spell) (n : ℕ) (r : Record) (sh : Shaped r) (s : Sound r) (agree : Agree spells r) (row : StepRow) where
+  tells-refused : (a : Answer) (ph : ℕ) → (a ≡ Done → ⊥) → Tells spells n r row (refused r a ph)
+  unfolding meaningOf eventBy
+  tells-refused a ph no-way =
+      let off = not-done a no-way in
+      let nothing : meaningOf (lineOf row (refused r a ph)) ≡ Nothing = rw off in
+      record { seen = rw off; after = record { each = λ d. rw (after-nothing spells n (lineOf row (refused r a ph)) d nothing) (agree .each d) } }
+
+  module _ (w : Allowed r (row .kind) (row .at) (row .person)) where
+    abbrev z : Step
+    z = act r (row .at) (doing r (row .kind) (row .at) (row .person))
+
+    acted : stepOf r (row .kind) (row .at) (row .person) ≡ z
+    acted = allowed-does r (row .kind) (row .at) (row .person) w
+
+    follow : Follows n (row .at) (row .person) (reasonFor r (row .at) (getD (r .holder) (row .at) 0)) (row .kind) (doorOf r (row .at)) (doing r (row .kind) (row .at) (row .person)) (spells (row .at))
+    follow = follows n (row .at) (row .person) _ (doorOf r (row .at)) (spells (row .at)) (agree .each (row .at)) (row .kind) (w .allowed)
+
+    -- the line means what the reply of the step done says
+    means : meaningOf (lineOf row z) ≡ meaningBy (row .kind) (doneReply (doorOf r (row .at)) (doing r (row .kind) (row .at) (row .person)))
+    unfolding meaningOf
+    means = ap (λ (x : Reply). meaningOf (record { row = row; reply = x })) (act-reply r (row .at) (doing r (row .kind) (row .at) (row .person)))
+
+    door-now : doorOf (z .next) (row .at) ≡ becomes (doorOf r (row .at)) (doing r (row .kind) (row .at) (row .person))
+    door-now = rw acted at (door-after r (row .kind) (row .at) (row .person) sh s (ap (λ (y : Step). y .answer) acted ∙ act-done r (row .at) _))
+
+    here : standing (spellsAfter spells n (lineOf row z) (row .at)) ≡ standingAt (doorOf (z .next) (row .at))
+    here = rw (after-here spells n (lineOf row z) (row .at) refl, door-now, means) (follow .after)
+
+    there : (d : ℕ) → (d ≡ row .at → ⊥) → standing (spellsAfter spells n (lineOf row z) d) ≡ standingAt (doorOf (z .next) d)
+    there d ne =
+        rw (after-there spells n (lineOf row z) d ne)
+        (agree .each d ∙ ap standingAt (sym (rw acted at (others-stay r (row .kind) (row .at) (row .person) d ne))))
+
+    tells-done : Tells spells n r row z
+    tells-done =
+        record {
+          seen = rw (means, act-done r (row .at) (doing r (row .kind) (row .at) (row .person))) (follow .seen);
+          after = record { each = λ d. ⊎-elim (λ is. rw is here) (there d) (same-or-not d (row .at)) };
+        }
+
+  pub tells : Tells spells n r row (rowOf r row)
+  tells = step-cases (Tells spells n r row) r (row .kind) (row .at) (row .person) tells-refused tells-done
+
+  pub told-seen : eventBy (meaningOf (lineOf row (rowOf r row))) n (row .at) (spells (row .at) .person) ≡ seenAt n r row
+  unfolding seenAt
+  told-seen = tells .seen

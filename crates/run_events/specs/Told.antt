@@ -1,0 +1,129 @@
+-- What holds of the events and the spells of a run: they are what the record's inside has. Here the record is looked into.
+use Prim.Native.Nat.{ℕ, _+_}
+use mathlib.Core.Path.{_≡_}
+use mathlib.Core.Bool.{Bool, true, false, cond}
+use mathlib.Core.List.{List, [], _∷_, _++_, map}
+use lib.ListN.{getD}
+use lib.Dec.{eqb}
+use Rattle.tables.specs.Tables.{andAlso}
+use Rattle.door.specs.declared.Door.{Door}
+use Rattle.record.specs.declared.record.Record.{Record}
+use Rattle.phases.specs.declared.table.Kind.{Kind}
+use Rattle.phases.specs.declared.table.Kind.the-variants.{Card, Decide, Green, Red, Walk, Tick, Passed, Lapsed, Dark, Ack, Unknown}
+use Rattle.phases.specs.declared.answer.Answer.the-variants.{Done}
+use Rattle.phases.specs.Answers.{answerNo}
+use Rattle.phases.specs.Phase.{free, read, grants}
+use Rattle.phases.specs.Kinds.{StepRow}
+use Rattle.record.specs.Doors.{doorOf}
+use Rattle.record.specs.Steps.{reasonFor}
+use Rattle.record.specs.Run.{rowOf, lastOf}
+use Rattle.run_events.specs.Lines.{Line, heardOf}
+use Rattle.run_events.specs.Events.{What, Grant, Denial, Passage, Lapse, RunEvent, event, Stage, NoCard, Awaited, After, Spell, spellsOf, eventsOf}
+
+-- ---- what stands at a door
+
+-- nothing; a person's card that isn't decided; a person's grant that isn't ended; or a card that was denied or whose grant ended,
+-- not yet acknowledged
+pub data Standing : Type 0 where
+  Free : Standing
+  CardOf : ℕ → Standing
+  GrantOf : ℕ → Standing
+  Ended : Standing
+
+-- by what was told ..
+abbrev pub standingBy : Stage → ℕ → Standing
+standingBy NoCard person = Free
+standingBy Awaited person = CardOf person
+standingBy (After Grant) person = GrantOf person
+standingBy (After (Denial why)) person = Ended
+standingBy (After Passage) person = Ended
+standingBy (After Lapse) person = Ended
+
+abbrev pub standing : Spell → Standing
+standing s = standingBy (s .stage) (s .person)
+
+-- .. and in the record: "1 read", "Phases 2 to 5 hold a grant", "0 free"
+unfoldable pub standingAt : Door → Standing
+standingAt c =
+    cond (grants (c .phase)) (GrantOf (c .holder))
+    (cond (eqb (c .phase) read) (CardOf (c .holder))
+    (cond (eqb (c .phase) free) Free Ended))
+
+-- the spells tell of each door what the record has there
+pub record Agree (spells : ℕ → Spell) (r : Record) : Type 0 where
+  pub each : (d : ℕ) → standing (spells d) ≡ standingAt (doorOf r d)
+
+-- person p has the card of a spell, and was granted last
+pub record Granted (s : Spell) (p : ℕ) : Type 0 where
+  pub stage : s .stage ≡ After Grant
+  pub person : s .person ≡ p
+
+-- ---- the events, seen in the record
+
+-- what a step that is done does to the card at its door, why being the reason for which the record denies it, 0 for none
+unfoldable pub whatBy : Kind → ℕ → List What
+whatBy Decide why = cond (eqb why 0) Grant (Denial why) ∷ []
+whatBy Passed why = Passage ∷ []
+whatBy Lapsed why = Lapse ∷ []
+whatBy Card why = []
+whatBy Green why = []
+whatBy Red why = []
+whatBy Walk why = []
+whatBy Tick why = []
+whatBy Dark why = []
+whatBy Ack why = []
+whatBy Unknown why = []
+
+-- the event of the step of row n, with the person whom the record's door holds before it; a refused step has none
+unfoldable pub seenAt : ℕ → Record → StepRow → List RunEvent
+seenAt n r row =
+    let person = getD (r .holder) (row .at) 0 in
+    cond (eqb (answerNo (rowOf r row .answer)) 0) (map (event n (row .at) person) (whatBy (row .kind) (reasonFor r (row .at) person))) []
+
+-- the events of a list of steps from row n on, the record looked into before each
+unfoldable pub eventsSeen : ℕ → Record → List StepRow → List RunEvent
+eventsSeen n r [] = []
+eventsSeen n r (row ∷ rows) = seenAt n r row ++ eventsSeen (n + 1) (rowOf r row .next) rows
+
+-- ---- the rows of the events
+
+-- is the step one that decides a card, or ends a grant?
+unfoldable pub decides : Kind → Bool
+decides Decide = true
+decides Passed = true
+decides Lapsed = true
+decides Card = false
+decides Green = false
+decides Red = false
+decides Walk = false
+decides Tick = false
+decides Dark = false
+decides Ack = false
+decides Unknown = false
+
+-- the rows of the `decide`, `passed` and `lapsed` that were answered 0, from row n on
+unfoldable pub rowsActed : ℕ → List Line → List ℕ
+rowsActed n [] = []
+rowsActed n (line ∷ lines) =
+    cond (andAlso (eqb (line .reply .answer) 0) (decides (line .row .kind))) (n ∷ []) [] ++ rowsActed (n + 1) lines
+
+-- ---- all of it
+
+-- the steps that end a grant
+pub data EndsGrant : Kind → Type 0 where
+  passing : EndsGrant Passed
+  lapsing : EndsGrant Lapsed
+
+-- From a record with which the spells agree, and for a list of steps from row n on
+pub record TellsTruly (spells : ℕ → Spell) (n : ℕ) (r : Record) (rows : List StepRow) : Type 0 where
+  -- there is one event for each `decide`, `passed` and `lapsed` that acted and none else, and its person is the one whom the
+  -- record's door held before that step
+  pub events : eventsOf spells n (heardOf r rows) ≡ eventsSeen n r rows
+  -- the events' rows are those steps' rows, in order, each once
+  pub in-rows : map (λ (e : RunEvent). e .row) (eventsOf spells n (heardOf r rows)) ≡ rowsActed n (heardOf r rows)
+  -- a passage or a lapse is of a card that was granted: so the spell at the door says before such a step acts
+  pub of-a-grant : (before after : List StepRow) (row : StepRow) → rows ≡ before ++ (row ∷ after) → EndsGrant (row .kind)
+      → rowOf (lastOf r before) row .answer ≡ Done
+      → Granted (spellsOf spells n (heardOf r before) (row .at)) (getD (lastOf r before .holder) (row .at) 0)
+  -- and the spells agree with the record at the end
+  pub agree : Agree (spellsOf spells n (heardOf r rows)) (lastOf r rows)
