@@ -11,6 +11,7 @@ use lib.Dec.{eqb}
 use Rattle.tables.proofs.Cases.{same-or-not}
 use Rattle.door.specs.declared.does.Does.{Does}
 use Rattle.door.specs.declared.does.Does.the-variants.{Stays, Turns, Moves}
+use Rattle.phases.specs.declared.table.Kind.{Kind}
 use Rattle.phases.specs.declared.answer.Answer.{Answer}
 use Rattle.phases.specs.declared.answer.Answer.the-variants.{Done, NoSuch, NotAllowed, TooShort, Unsound}
 use Rattle.phases.specs.Answers.{answerNo}
@@ -23,8 +24,8 @@ use Rattle.record.specs.Steps.{reasonFor, act, refused, doing, stepOf}
 use Rattle.record.specs.Run.{Reply, replyBy, rowOf}
 use Rattle.record.proofs.Laws.{Allowed, step-cases, allowed-does, others-stay, door-after, act-done, becomes}
 use Rattle.run_events.specs.Lines.{Line}
-use Rattle.run_events.specs.Events.{RunEvent, event, Nothing, meaningBy, meaningOf, Spell, spellBy, spellsAfter, eventBy}
-use Rattle.run_events.specs.Told.{standing, standingAt, Agree, whatBy, seenAt}
+use Rattle.run_events.specs.Events.{Nothing, meaningBy, meaningOf, Spell, spellBy, spellsAfter, eventBy}
+use Rattle.run_events.specs.Told.{standing, standingAt, Agree, seenOf}
 use Rattle.run_events.proofs.Doors.{doneReply, Follows, follows}
 
 -- the line of a step and what it handed back
@@ -44,6 +45,13 @@ not-done NotAllowed no-way = refl
 not-done TooShort no-way = refl
 not-done Unsound no-way = refl
 
+-- the door of a step that is done, afterwards
+pub door-here : (r : Record) (k : Kind) (d p : ℕ) → Shaped r → Sound r → Allowed r k d p
+    → doorOf (act r d (doing r k d p) .next) d ≡ becomes (doorOf r d) (doing r k d p)
+door-here r k d p sh s w =
+    let acted = allowed-does r k d p w in
+    rw acted at (door-after r k d p sh s (ap (λ (y : Step). y .answer) acted ∙ act-done r d (doing r k d p)))
+
 -- the spell at the door of a line, and at any other
 module _ (spells : ℕ → Spell) (n : ℕ) (line : Line) (d : ℕ) where
   after-here : d ≡ line .row .at → spellsAfter spells n line d ≡ spellBy (meaningOf line) n (line .row .person) (spells d)
@@ -61,8 +69,7 @@ module _ (spells : ℕ → Spell) (n : ℕ) (line : Line) (d : ℕ) where
 
 -- what is told of a step of row n that handed back z, and what is seen of it
 pub record Tells (spells : ℕ → Spell) (n : ℕ) (r : Record) (row : StepRow) (z : Step) : Type 0 where
-  pub seen : eventBy (meaningOf (lineOf row z)) n (row .at) (spells (row .at) .person)
-      ≡ cond (eqb (answerNo (z .answer)) 0) (map (event n (row .at) (getD (r .holder) (row .at) 0)) (whatBy (row .kind) (reasonFor r (row .at) (getD (r .holder) (row .at) 0)))) []
+  pub seen : eventBy (meaningOf (lineOf row z)) n (row .at) (spells (row .at) .person) ≡ seenOf n r row z
   pub after : Agree (spellsAfter spells n (lineOf row z)) (z .next)
 
 module _ (spells : ℕ → Spell) (n : ℕ) (r : Record) (sh : Shaped r) (s : Sound r) (agree : Agree spells r) (row : StepRow) where
@@ -88,11 +95,8 @@ module _ (spells : ℕ → Spell) (n : ℕ) (r : Record) (sh : Shaped r) (s : So
     unfolding meaningOf
     means = ap (λ (x : Reply). meaningOf (record { row = row; reply = x })) (act-reply r (row .at) (doing r (row .kind) (row .at) (row .person)))
 
-    door-now : doorOf (z .next) (row .at) ≡ becomes (doorOf r (row .at)) (doing r (row .kind) (row .at) (row .person))
-    door-now = rw acted at (door-after r (row .kind) (row .at) (row .person) sh s (ap (λ (y : Step). y .answer) acted ∙ act-done r (row .at) _))
-
     here : standing (spellsAfter spells n (lineOf row z) (row .at)) ≡ standingAt (doorOf (z .next) (row .at))
-    here = rw (after-here spells n (lineOf row z) (row .at) refl, door-now, means) (follow .after)
+    here = rw (after-here spells n (lineOf row z) (row .at) refl, door-here r (row .kind) (row .at) (row .person) sh s w, means) (follow .after)
 
     there : (d : ℕ) → (d ≡ row .at → ⊥) → standing (spellsAfter spells n (lineOf row z) d) ≡ standingAt (doorOf (z .next) d)
     there d ne =
@@ -108,7 +112,3 @@ module _ (spells : ℕ → Spell) (n : ℕ) (r : Record) (sh : Shaped r) (s : So
 
   pub tells : Tells spells n r row (rowOf r row)
   tells = step-cases (Tells spells n r row) r (row .kind) (row .at) (row .person) tells-refused tells-done
-
-  pub told-seen : eventBy (meaningOf (lineOf row (rowOf r row))) n (row .at) (spells (row .at) .person) ≡ seenAt n r row
-  unfolding seenAt
-  told-seen = tells .seen

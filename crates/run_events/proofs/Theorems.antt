@@ -20,20 +20,14 @@ use Rattle.record.specs.declared.record.Record.{Record}
 use Rattle.record.specs.Doors.{doorOf, Shaped}
 use Rattle.record.specs.Sound.{Sound}
 use Rattle.record.specs.Run.{Reply, rowOf, lastOf, repliesOf}
-use Rattle.record.proofs.Laws.{done-did, sound-stays, shaped-stays, run-sound, run-shaped}
+use Rattle.record.proofs.Laws.{done-did, sound-stays, shaped-stays}
 use Rattle.run_events.specs.Lines.{Line, linesOf, heardOf}
 use Rattle.run_events.specs.Events.{RunEvent, meaningBy, meaningOf, Spell, noSpells, spellsAfter, spellsOf, eventBy, eventsOf}
-use Rattle.run_events.specs.Told.{standing, standingAt, Agree, Granted, seenAt, eventsSeen, decides, rowsActed, EndsGrant, passing, lapsing, TellsTruly}
+use Rattle.run_events.specs.Told.{standing, standingAt, Agree, Granted, eventsSeen, decides, rowsActed, EndsGrant, passing, lapsing, TellsTruly}
 use Rattle.run_events.proofs.Doors.{at-grant, is-granted}
-use Rattle.run_events.proofs.Steps.{lineOf, tells, told-seen}
+use Rattle.run_events.proofs.Steps.{tells}
 
 -- ---- one step after the other
-
-module _ (row : StepRow) (rows : List StepRow) (r : Record) where
-  -- what is heard of a list is its first line, and what is heard of the rest
-  pub heard-on : heardOf r (row ∷ rows) ≡ lineOf row (rowOf r row) ∷ heardOf (rowOf r row .next) rows
-  unfolding heardOf linesOf repliesOf
-  heard-on = refl
 
 -- the events told are the events seen
 pub all-seen : (rows : List StepRow) (spells : ℕ → Spell) (n : ℕ) (r : Record) → Shaped r → Sound r → Agree spells r
@@ -44,7 +38,7 @@ all-seen (row ∷ rows) spells n r sh s agree =
     let sh′ = shaped-stays r (row .kind) (row .at) (row .person) sh in
     let s′ = sound-stays r (row .kind) (row .at) (row .person) sh s in
     let on = all-seen rows _ (n + 1) (rowOf r row .next) sh′ s′ (tells spells n r sh s agree row .after) in
-    rw (told-seen spells n r sh s agree row, on)
+    rw (tells spells n r sh s agree row .seen, on)
 
 -- the spells agree with the record after any list
 pub agree-on : (rows : List StepRow) (spells : ℕ → Spell) (n : ℕ) (r : Record) → Shaped r → Sound r → Agree spells r

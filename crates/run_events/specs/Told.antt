@@ -14,6 +14,7 @@ use Rattle.phases.specs.declared.answer.Answer.the-variants.{Done}
 use Rattle.phases.specs.Answers.{answerNo}
 use Rattle.phases.specs.Phase.{free, read, grants}
 use Rattle.phases.specs.Kinds.{StepRow}
+use Rattle.record.specs.declared.steps.Step.{Step}
 use Rattle.record.specs.Doors.{doorOf}
 use Rattle.record.specs.Steps.{reasonFor}
 use Rattle.record.specs.Run.{rowOf, lastOf}
@@ -74,16 +75,16 @@ whatBy Dark why = []
 whatBy Ack why = []
 whatBy Unknown why = []
 
--- the event of the step of row n, with the person whom the record's door holds before it; a refused step has none
-unfoldable pub seenAt : ℕ → Record → StepRow → List RunEvent
-seenAt n r row =
+-- the event of the step of row n that handed back z, with the person whom the record's door held before; a refused step has none
+abbrev pub seenOf : ℕ → Record → StepRow → Step → List RunEvent
+seenOf n r row z =
     let person = getD (r .holder) (row .at) 0 in
-    cond (eqb (answerNo (rowOf r row .answer)) 0) (map (event n (row .at) person) (whatBy (row .kind) (reasonFor r (row .at) person))) []
+    cond (eqb (answerNo (z .answer)) 0) (map (event n (row .at) person) (whatBy (row .kind) (reasonFor r (row .at) person))) []
 
 -- the events of a list of steps from row n on, the record looked into before each
 unfoldable pub eventsSeen : ℕ → Record → List StepRow → List RunEvent
 eventsSeen n r [] = []
-eventsSeen n r (row ∷ rows) = seenAt n r row ++ eventsSeen (n + 1) (rowOf r row .next) rows
+eventsSeen n r (row ∷ rows) = seenOf n r row (rowOf r row) ++ eventsSeen (n + 1) (rowOf r row .next) rows
 
 -- ---- the rows of the events
 
