@@ -29,6 +29,9 @@ use Rattle.run_events.proofs.Steps.{tells}
 
 -- ---- one step after the other
 
+both : {a b c d : List RunEvent} → a ≡ b → c ≡ d → a ++ c ≡ b ++ d
+both first rest = rw (first, rest)
+
 -- the events told are the events seen
 pub all-seen : (rows : List StepRow) (spells : ℕ → Spell) (n : ℕ) (r : Record) → Shaped r → Sound r → Agree spells r
     → eventsOf spells n (heardOf r rows) ≡ eventsSeen n r rows
@@ -38,7 +41,7 @@ all-seen (row ∷ rows) spells n r sh s agree =
     let sh′ = shaped-stays r (row .kind) (row .at) (row .person) sh in
     let s′ = sound-stays r (row .kind) (row .at) (row .person) sh s in
     let on = all-seen rows _ (n + 1) (rowOf r row .next) sh′ s′ (tells spells n r sh s agree row .after) in
-    rw (tells spells n r sh s agree row .seen, on)
+    both (tells spells n r sh s agree row .seen) on
 
 -- the spells agree with the record after any list
 pub agree-on : (rows : List StepRow) (spells : ℕ → Spell) (n : ℕ) (r : Record) → Shaped r → Sound r → Agree spells r
