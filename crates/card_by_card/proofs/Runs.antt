@@ -14,15 +14,14 @@ use Rattle.record.specs.declared.record.Record.{Record}
 use Rattle.phases.specs.declared.table.Kind.{Kind}
 use Rattle.phases.specs.declared.table.Kind.the-variants.{Card, Decide, Green, Red, Walk, Tick, Passed, Lapsed, Dark, Ack, Unknown}
 use Rattle.phases.specs.declared.answer.Answer.{Answer}
-use Rattle.phases.specs.declared.answer.Answer.the-variants.{Done, NoSuch, NotAllowed, TooShort, Unsound}
+use Rattle.phases.specs.declared.answer.Answer.the-variants.{Done}
 use Rattle.record.specs.declared.steps.Step.{Step}
 use Rattle.phases.specs.Answers.{answerNo}
-use Rattle.phases.specs.Phase.{read, green, walked, expired, denied, red, keeps, grants}
+use Rattle.phases.specs.Phase.{read, green, walked, expired, red, keeps, grants}
 use Rattle.record.specs.Doors.{doorOf, Shaped}
 use Rattle.record.specs.Sound.{Sound}
 use Rattle.phases.specs.Kinds.{StepRow, allows, namesPerson}
 use Rattle.door.specs.declared.does.Does.{Does}
-use Rattle.door.specs.declared.does.Does.the-variants.{Stays, Turns, Moves}
 use Rattle.door.specs.Does.{effect}
 use Rattle.record.specs.Steps.{reasonFor, First, busy, act, refused, doing, stepOf}
 use Rattle.record.specs.Run.{rowOf, lastOf, repliesOf}

@@ -1,25 +1,25 @@
 -- One step that is done, at its door: the event that is told is the one that the record has, and what stands at the door
 -- afterwards is what the record has there. Assumes nothing.
 use Prim.Native.Nat.{ℕ}
-use mathlib.Core.Path.{_≡_, refl, sym, ap, _∙_}
-use mathlib.Core.Bool.{Bool, true, false, cond, false≢true}
+use mathlib.Core.Path.{_≡_, refl, _∙_}
+use mathlib.Core.Bool.{Bool, true, false, false≢true}
 use mathlib.Core.Logic.{⊎-elim}
-use mathlib.Core.List.{List, [], _∷_, map}
+use mathlib.Core.List.{[], map}
 use borrow.Author.Tests.{eqb-true}
 use lib.Dec.{eqb, ltb}
-use Rattle.tables.specs.Tables.{orElse, andAlso}
+use Rattle.tables.specs.Tables.{andAlso}
 use Rattle.tables.proofs.Cases.{either, one-of}
 use Rattle.door.specs.declared.Door.{Door}
 use Rattle.door.specs.declared.does.Does.{Does}
 use Rattle.door.specs.Does.{effect}
 use Rattle.phases.specs.declared.table.Kind.{Kind}
 use Rattle.phases.specs.declared.table.Kind.the-variants.{Card, Decide, Green, Red, Walk, Tick, Passed, Lapsed, Dark, Ack, Unknown}
-use Rattle.phases.specs.Phase.{free, read, granted, green, walked, expired, denied, red, dimmed, closed, grants}
+use Rattle.phases.specs.Phase.{read, granted, green, walked, expired, denied, red, dimmed, grants}
 use Rattle.phases.specs.Kinds.{allows}
 use Rattle.record.specs.Run.{Reply}
 use Rattle.record.proofs.Laws.{becomes, tells}
-use Rattle.run_events.specs.Events.{What, Grant, Denial, Passage, Lapse, RunEvent, event, Nothing, meaningBy, Stage, NoCard, Awaited, After, Spell, spellBy, eventBy}
-use Rattle.run_events.specs.Told.{Standing, Free, CardOf, GrantOf, Ended, standing, standingBy, standingAt, Granted, whatBy}
+use Rattle.run_events.specs.Events.{Grant, Denial, Passage, Lapse, event, Nothing, meaningBy, Stage, NoCard, Awaited, After, Spell, spellBy, eventBy}
+use Rattle.run_events.specs.Told.{CardOf, GrantOf, standing, standingBy, standingAt, Granted, whatBy}
 
 -- the reply of a step that was done at a door that was c
 abbrev pub doneReply : Door → Does → Reply

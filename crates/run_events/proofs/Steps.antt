@@ -1,10 +1,9 @@
 -- One step of a record, done or refused: its event is the one seen in the record, and the spells agree with the record after it.
 -- Assumes nothing.
 use Prim.Native.Nat.{ℕ}
-use mathlib.Core.Path.{_≡_, refl, sym, ap, subst, _∙_}
-use mathlib.Core.Bool.{Bool, true, false, cond}
+use mathlib.Core.Path.{_≡_, refl, sym, ap, _∙_}
+use mathlib.Core.Bool.{false}
 use mathlib.Core.Logic.{⊎-elim}
-use mathlib.Core.List.{List, [], map}
 use borrow.Author.Tests.{eq-eqb, ne-eqb}
 use lib.ListN.{getD}
 use lib.Dec.{eqb}
@@ -38,6 +37,11 @@ act-reply r d Stays = refl
 act-reply r d (Turns c why) = refl
 act-reply r d (Moves c) = refl
 
+-- the line of a step that was done means what its kind says
+pub done-means : (r : Record) (row : StepRow) (x : Does) → meaningOf (lineOf row (act r (row .at) x)) ≡ meaningBy (row .kind) (doneReply (doorOf r (row .at)) x)
+unfolding meaningOf
+done-means r row x = ap (λ (reply : Reply). meaningOf (record { row = row; reply = reply })) (act-reply r (row .at) x)
+
 pub not-done : (a : Answer) → (a ≡ Done → ⊥) → eqb (answerNo a) 0 ≡ false
 not-done Done no-way = absurd (no-way refl)
 not-done NoSuch no-way = refl
@@ -54,11 +58,11 @@ door-here r k d p sh s w =
 
 -- the spell at the door of a line, and at any other
 module _ (spells : ℕ → Spell) (n : ℕ) (line : Line) (d : ℕ) where
-  after-here : d ≡ line .row .at → spellsAfter spells n line d ≡ spellBy (meaningOf line) n (line .row .person) (spells d)
+  pub after-here : d ≡ line .row .at → spellsAfter spells n line d ≡ spellBy (meaningOf line) n (line .row .person) (spells d)
   unfolding spellsAfter
   after-here e = rw (eq-eqb d (line .row .at) e)
 
-  after-there : (d ≡ line .row .at → ⊥) → spellsAfter spells n line d ≡ spells d
+  pub after-there : (d ≡ line .row .at → ⊥) → spellsAfter spells n line d ≡ spells d
   unfolding spellsAfter
   after-there ne = rw (ne-eqb d (line .row .at) ne)
 
@@ -90,13 +94,8 @@ module _ (spells : ℕ → Spell) (n : ℕ) (r : Record) (sh : Shaped r) (s : So
     follow : Follows n (row .at) (row .person) (reasonFor r (row .at) (getD (r .holder) (row .at) 0)) (row .kind) (doorOf r (row .at)) (doing r (row .kind) (row .at) (row .person)) (spells (row .at))
     follow = follows n (row .at) (row .person) _ (doorOf r (row .at)) (spells (row .at)) (agree .each (row .at)) (row .kind) (w .allowed)
 
-    -- the line means what the reply of the step done says
-    means : meaningOf (lineOf row z) ≡ meaningBy (row .kind) (doneReply (doorOf r (row .at)) (doing r (row .kind) (row .at) (row .person)))
-    unfolding meaningOf
-    means = ap (λ (x : Reply). meaningOf (record { row = row; reply = x })) (act-reply r (row .at) (doing r (row .kind) (row .at) (row .person)))
-
     here : standing (spellsAfter spells n (lineOf row z) (row .at)) ≡ standingAt (doorOf (z .next) (row .at))
-    here = rw (after-here spells n (lineOf row z) (row .at) refl, door-here r (row .kind) (row .at) (row .person) sh s w, means) (follow .after)
+    here = rw (after-here spells n (lineOf row z) (row .at) refl, door-here r (row .kind) (row .at) (row .person) sh s w, done-means r row (doing r (row .kind) (row .at) (row .person))) (follow .after)
 
     there : (d : ℕ) → (d ≡ row .at → ⊥) → standing (spellsAfter spells n (lineOf row z) d) ≡ standingAt (doorOf (z .next) d)
     there d ne =
@@ -106,7 +105,7 @@ module _ (spells : ℕ → Spell) (n : ℕ) (r : Record) (sh : Shaped r) (s : So
     tells-done : Tells spells n r row z
     tells-done =
         record {
-          seen = rw (means, act-done r (row .at) (doing r (row .kind) (row .at) (row .person))) (follow .seen);
+          seen = rw (done-means r row (doing r (row .kind) (row .at) (row .person)), act-done r (row .at) (doing r (row .kind) (row .at) (row .person))) (follow .seen);
           after = record { each = λ d. ⊎-elim (λ is. rw is here) (there d) (same-or-not d (row .at)) };
         }
 

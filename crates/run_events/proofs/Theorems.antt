@@ -2,8 +2,9 @@
 --     tells-truly     of every sound record, every list of steps and all spells that agree with the record
 --     fresh-agree     where every door is free, no spells agree with it
 --     fresh-truly     so a run from a fresh record tells truly
+--     fresh-began     and each spell has the row and the person of its taken card
 use Prim.Native.Nat.{ℕ, _+_}
-use mathlib.Core.Path.{_≡_, refl, sym, ap, subst, _∙_}
+use mathlib.Core.Path.{_≡_, refl, sym, ap, _∙_}
 use mathlib.Core.Bool.{Bool, true, false, cond}
 use mathlib.Core.List.{List, [], _∷_, _++_, map}
 use borrow.Author.Tests.{eqb-true}
@@ -22,10 +23,11 @@ use Rattle.record.specs.Sound.{Sound}
 use Rattle.record.specs.Run.{Reply, rowOf, lastOf, repliesOf}
 use Rattle.record.proofs.Laws.{done-did, sound-stays, shaped-stays}
 use Rattle.run_events.specs.Lines.{Line, linesOf, heardOf}
-use Rattle.run_events.specs.Events.{RunEvent, meaningBy, meaningOf, Spell, noSpells, spellsAfter, spellsOf, eventBy, eventsOf}
-use Rattle.run_events.specs.Told.{standing, standingAt, Agree, Granted, eventsSeen, decides, rowsActed, EndsGrant, passing, lapsing, TellsTruly}
+use Rattle.run_events.specs.Events.{RunEvent, meaningBy, meaningOf, NoCard, Spell, noSpell, noSpells, spellsAfter, spellsOf, spellsIn, eventBy, eventsOf}
+use Rattle.run_events.specs.Told.{standingAt, Agree, Granted, eventsSeen, decides, rowsActed, Began, Since, no-card, began, goes-on, EndsGrant, passing, lapsing, TellsTruly}
 use Rattle.run_events.proofs.Doors.{at-grant, is-granted}
 use Rattle.run_events.proofs.Steps.{tells}
+use Rattle.run_events.proofs.Spells.{since}
 
 -- ---- one step after the other
 
@@ -114,6 +116,7 @@ tells-truly rows spells n r sh s agree =
       events = all-seen rows spells n r sh s agree;
       in-rows = all-rows (heardOf r rows) spells n;
       of-a-grant = λ before after row split ends done. grant-ends _ (lastOf r before) (agree-on before spells n r sh s agree) row ends done;
+      since = since rows spells n r sh s agree;
       agree = agree-on rows spells n r sh s agree;
     }
 
@@ -123,3 +126,13 @@ fresh-agree r free = record { each = λ d. sym (ap standingAt (free d)) }
 
 pub fresh-truly : (r : Record) → Shaped r → Sound r → ((d : ℕ) → doorOf r d ≡ freeDoor) → (rows : List StepRow) → TellsTruly noSpells 1 r rows
 fresh-truly r sh s free rows = tells-truly rows noSpells 1 r sh s (fresh-agree r free)
+
+-- a spell after a run from there began in the run, with the taken card of its row and its person
+pub fresh-began : (r : Record) → Shaped r → Sound r → ((d : ℕ) → doorOf r d ≡ freeDoor) → (rows : List StepRow) (d : ℕ)
+    → (spellsIn r rows d .stage ≡ NoCard → ⊥) → Began d (spellsIn r rows d) 1 (heardOf r rows)
+fresh-began r sh s free rows d some = go (fresh-truly r sh s free rows .since d)
+  where
+    go : Since d noSpell (spellsIn r rows d) 1 (heardOf r rows) → Began d (spellsIn r rows d) 1 (heardOf r rows)
+    go (no-card e) = absurd (some e)
+    go (began b) = b
+    go (goes-on _ _ _ none) = absurd (some (none refl))

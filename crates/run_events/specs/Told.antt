@@ -19,7 +19,7 @@ use Rattle.record.specs.Doors.{doorOf}
 use Rattle.record.specs.Steps.{reasonFor}
 use Rattle.record.specs.Run.{rowOf, lastOf}
 use Rattle.run_events.specs.Lines.{Line, heardOf}
-use Rattle.run_events.specs.Events.{What, Grant, Denial, Passage, Lapse, RunEvent, event, Stage, NoCard, Awaited, After, Spell, spellsOf, eventsOf}
+use Rattle.run_events.specs.Events.{What, Grant, Denial, Passage, Lapse, RunEvent, event, Meaning, Taken, Happened, Nothing, meaningOf, Stage, NoCard, Awaited, After, Spell, spellsOf, eventsOf}
 
 -- ---- what stands at a door
 
@@ -108,6 +108,30 @@ rowsActed n [] = []
 rowsActed n (line ∷ lines) =
     cond (andAlso (eqb (line .reply .answer) 0) (decides (line .row .kind))) (n ∷ []) [] ++ rowsActed (n + 1) lines
 
+-- ---- where a spell began
+
+-- something happens to the card at the door, or nothing: neither is a card taken nor the door freed
+pub data KeepsCard : Meaning → Type 0 where
+  happens : {what : What} → KeepsCard (Happened what)
+  nothing : KeepsCard Nothing
+
+-- so it is with every line of these at door d
+pub data GoesOn (d : ℕ) : List Line → Type 0 where
+  end : GoesOn d []
+  then : {line : Line} {lines : List Line} → (line .row .at ≡ d → KeepsCard (meaningOf line)) → GoesOn d lines → GoesOn d (line ∷ lines)
+
+-- the spell s at door d began in one of these lines, from row n on: there its person's card was taken, and it goes on since
+pub data Began (d : ℕ) (s : Spell) : ℕ → List Line → Type 0 where
+  here : {n : ℕ} {line : Line} {lines : List Line} → line .row .at ≡ d → meaningOf line ≡ Taken → s .row ≡ n → s .person ≡ line .row .person
+      → GoesOn d lines → Began d s n (line ∷ lines)
+  later : {n : ℕ} {line : Line} {lines : List Line} → Began d s (n + 1) lines → Began d s n (line ∷ lines)
+
+-- at a door with a card the spell began in these lines, or it is the one that was there before them
+pub data Since (d : ℕ) (was s : Spell) (n : ℕ) (lines : List Line) : Type 0 where
+  no-card : s .stage ≡ NoCard → Since d was s n lines
+  began : Began d s n lines → Since d was s n lines
+  goes-on : GoesOn d lines → s .row ≡ was .row → s .person ≡ was .person → (was .stage ≡ NoCard → s .stage ≡ NoCard) → Since d was s n lines
+
 -- ---- all of it
 
 -- the steps that end a grant
@@ -126,5 +150,7 @@ pub record TellsTruly (spells : ℕ → Spell) (n : ℕ) (r : Record) (rows : Li
   pub of-a-grant : (before after : List StepRow) (row : StepRow) → rows ≡ before ++ (row ∷ after) → EndsGrant (row .kind)
       → rowOf (lastOf r before) row .answer ≡ Done
       → Granted (spellsOf spells n (heardOf r before) (row .at)) (getD (lastOf r before .holder) (row .at) 0)
+  -- the row and the person of a spell are those of its taken card
+  pub since : (d : ℕ) → Since d (spells d) (spellsOf spells n (heardOf r rows) d) n (heardOf r rows)
   -- and the spells agree with the record at the end
   pub agree : Agree (spellsOf spells n (heardOf r rows)) (lastOf r rows)
