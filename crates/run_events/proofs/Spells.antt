@@ -1,6 +1,6 @@
 -- The spell at a door, from its taken card on: its row and its person are those of the card. Assumes nothing.
 use Prim.Native.Nat.{ℕ, _+_}
-use mathlib.Core.Path.{_≡_, refl, sym, ap, subst, _∙_}
+use mathlib.Core.Path.{_≡_, refl, sym, ap, _∙_}
 use mathlib.Core.Bool.{true}
 use mathlib.Core.Logic.{⊎-elim}
 use mathlib.Core.List.{List, [], _∷_}
@@ -19,8 +19,8 @@ use Rattle.record.specs.Sound.{Sound}
 use Rattle.record.specs.Run.{Reply, rowOf, repliesOf}
 use Rattle.record.proofs.Laws.{step-cases, sound-stays, shaped-stays}
 use Rattle.run_events.specs.Lines.{Line, linesOf, heardOf}
-use Rattle.run_events.specs.Events.{What, Meaning, Taken, Happened, Freed, Nothing, meaningBy, meaningOf, NoCard, Spell, spellBy, spellsAfter, spellsOf}
-use Rattle.run_events.specs.Told.{standingAt, Free, Agree, KeepsCard, happens, nothing, GoesOn, end, then, here, later, Since, no-card, began, goes-on}
+use Rattle.run_events.specs.Events.{What, Meaning, Taken, Happened, Freed, Nothing, meaningBy, meaningOf, Stage, NoCard, Awaited, After, Spell, spellBy, spellsAfter, spellsOf}
+use Rattle.run_events.specs.Told.{standingAt, Free, Agree, Comes, end, elsewhere, unmoved, moved, here, later, Since, no-card, began, goes-on}
 use Rattle.run_events.proofs.Doors.{at-read, at-grant}
 use Rattle.run_events.proofs.Steps.{lineOf, done-means, not-done, after-here, after-there, tells}
 
@@ -57,16 +57,13 @@ module _ (spells : ℕ → Spell) (r : Record) (agree : Agree spells r) (row : S
 
 -- a line at the door, with the lines behind it: `was` is the spell before, `after` the one after, and `s` the one at the end
 at-door : {d n : ℕ} {line : Line} {lines : List Line} {was after s : Spell} (m : Meaning) → line .row .at ≡ d → meaningOf line ≡ m
-    → after ≡ spellBy m n (line .row .person) was → ((what : What) → m ≡ Happened what → was .stage ≡ NoCard → ⊥) → GoesOn d lines → s .row ≡ after .row
-    → s .person ≡ after .person → (after .stage ≡ NoCard → s .stage ≡ NoCard) → Since d was s n (line ∷ lines)
+    → after ≡ spellBy m n (line .row .person) was → ((what : What) → m ≡ Happened what → was .stage ≡ NoCard → ⊥) → (after .stage ≡ NoCard → ⊥)
+    → Comes d (after .stage) lines (s .stage) → s .row ≡ after .row → s .person ≡ after .person → Since d was s n (line ∷ lines)
 unfolding spellBy
-at-door Taken at e is some on row person free =
-    began (here at e (row ∙ ap (λ (x : Spell). x .row) is) (person ∙ ap (λ (x : Spell). x .person) is) on)
-at-door (Happened what) at e is some on row person free =
-    goes-on (then (λ _. subst KeepsCard (sym e) happens) on) (row ∙ ap (λ (x : Spell). x .row) is) (person ∙ ap (λ (x : Spell). x .person) is)
-    (λ none. absurd (some what refl none))
-at-door Freed at e is some on row person free = no-card (free (ap (λ (x : Spell). x .stage) is))
-at-door Nothing at e is some on row person free = goes-on (then (λ _. subst KeepsCard (sym e) nothing) on) (rw is at row) (rw is at person) (rw is at free)
+at-door Taken at e is card some on row person = began (here at e (rw is at row) (rw is at person) (rw is at on))
+at-door (Happened what) at e is card some on row person = goes-on (card what refl) (moved at e (rw is at on)) (rw is at row) (rw is at person)
+at-door Freed at e is card some on row person = absurd (some (ap (λ (x : Spell). x .stage) is))
+at-door Nothing at e is card some on row person = goes-on (rw is at some) (unmoved e (rw is at on)) (rw is at row) (rw is at person)
 
 -- a step of the record, with the lines behind it
 module _ (spells : ℕ → Spell) (n : ℕ) (r : Record) (agree : Agree spells r) (row : StepRow) (d : ℕ) where
@@ -76,19 +73,24 @@ module _ (spells : ℕ → Spell) (n : ℕ) (r : Record) (agree : Agree spells r
   one-more : {lines : List Line} {last : Spell} → Since d (spellsAfter spells n line d) last (n + 1) lines → Since d (spells d) last n (line ∷ lines)
   one-more (no-card e) = no-card e
   one-more (began b) = began (later b)
-  one-more (goes-on on row-same person free) =
+  one-more (goes-on some on of-row of-person) =
       ⊎-elim
       (λ (is : d ≡ row .at).
-      at-door (meaningOf line) (sym is) refl (after-here spells n line d is) (λ what e none. happens-to spells r agree row what e (rw is at none)) on row-same person free)
+      at-door (meaningOf line) (sym is) refl (after-here spells n line d is) (λ what e none. happens-to spells r agree row what e (rw is at none)) some on of-row of-person)
       (λ (is-not : d ≡ row .at → ⊥).
       let same = after-there spells n line d is-not in
-      goes-on (then (λ e. absurd (is-not (sym e))) on) (rw same at row-same) (rw same at person) (rw same at free))
+      goes-on (rw same at some) (elsewhere (λ e. is-not (sym e)) (rw same at on)) (rw same at of-row) (rw same at of-person))
       (same-or-not d (row .at))
 
 pub since : (rows : List StepRow) (spells : ℕ → Spell) (n : ℕ) (r : Record) → Shaped r → Sound r → Agree spells r → (d : ℕ)
     → Since d (spells d) (spellsOf spells n (heardOf r rows) d) n (heardOf r rows)
 unfolding heardOf linesOf repliesOf spellsOf
-since [] spells n r sh s agree d = goes-on end refl refl (λ e. e)
+since [] spells n r sh s agree d = go (spells d .stage) refl
+  where
+    go : (t : Stage) → spells d .stage ≡ t → Since d (spells d) (spells d) n []
+    go NoCard e = no-card e
+    go Awaited e = goes-on (λ z. differ (cc)) end refl refl
+    go (After what) e = goes-on (λ z. differ (cc)) end refl refl
 since (row ∷ rows) spells n r sh s agree d =
     one-more spells n r agree row d
     (since rows (spellsAfter spells n (lineOf row (rowOf r row))) (n + 1) (rowOf r row .next) (shaped-stays r (row .kind) (row .at) (row .person) sh)

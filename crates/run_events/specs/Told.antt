@@ -19,7 +19,7 @@ use Rattle.record.specs.Doors.{doorOf}
 use Rattle.record.specs.Steps.{reasonFor}
 use Rattle.record.specs.Run.{rowOf, lastOf}
 use Rattle.run_events.specs.Lines.{Line, heardOf}
-use Rattle.run_events.specs.Events.{What, Grant, Denial, Passage, Lapse, RunEvent, event, Meaning, Taken, Happened, Nothing, meaningOf, Stage, NoCard, Awaited, After, Spell, spellsOf, eventsOf}
+use Rattle.run_events.specs.Events.{What, Grant, Denial, Passage, Lapse, RunEvent, event, Taken, Happened, Nothing, meaningOf, Stage, NoCard, Awaited, After, Spell, spell, noSpell, spellsOf, eventsOf}
 
 -- ---- what stands at a door
 
@@ -53,6 +53,16 @@ standingAt c =
 -- the spells tell of each door what the record has there
 pub record Agree (spells : ℕ → Spell) (r : Record) : Type 0 where
   pub each : (d : ℕ) → standing (spells d) ≡ standingAt (doorOf r d)
+
+-- spells that agree with a record, by its doors: it keeps no rows, nor of a card that ended who had it and how it ended
+unfoldable pub shownAt : Door → Spell
+shownAt c =
+    cond (grants (c .phase)) (spell 0 (c .holder) (After Grant))
+    (cond (eqb (c .phase) read) (spell 0 (c .holder) Awaited)
+    (cond (eqb (c .phase) free) noSpell (spell 0 0 (After Lapse))))
+
+abbrev pub shownIn : Record → ℕ → Spell
+shownIn r d = shownAt (doorOf r d)
 
 -- person p has the card of a spell, and was granted last
 pub record Granted (s : Spell) (p : ℕ) : Type 0 where
@@ -88,49 +98,48 @@ eventsSeen n r (row ∷ rows) = seenOf n r row (rowOf r row) ++ eventsSeen (n + 
 
 -- ---- the rows of the events
 
--- is the step one that decides a card, or ends a grant?
-unfoldable pub decides : Kind → Bool
-decides Decide = true
-decides Passed = true
-decides Lapsed = true
-decides Card = false
-decides Green = false
-decides Red = false
-decides Walk = false
-decides Tick = false
-decides Dark = false
-decides Ack = false
-decides Unknown = false
+-- does a step that is done decide a card, or end a grant?
+unfoldable pub givesEvent : Kind → Bool
+givesEvent Decide = true
+givesEvent Passed = true
+givesEvent Lapsed = true
+givesEvent Card = false
+givesEvent Green = false
+givesEvent Red = false
+givesEvent Walk = false
+givesEvent Tick = false
+givesEvent Dark = false
+givesEvent Ack = false
+givesEvent Unknown = false
 
 -- the rows of the `decide`, `passed` and `lapsed` that were answered 0, from row n on
 unfoldable pub rowsActed : ℕ → List Line → List ℕ
 rowsActed n [] = []
 rowsActed n (line ∷ lines) =
-    cond (andAlso (eqb (line .reply .answer) 0) (decides (line .row .kind))) (n ∷ []) [] ++ rowsActed (n + 1) lines
+    cond (andAlso (eqb (line .reply .answer) 0) (givesEvent (line .row .kind))) (n ∷ []) [] ++ rowsActed (n + 1) lines
 
 -- ---- where a spell began
 
--- something happens to the card at the door, or nothing: neither is a card taken nor the door freed
-pub data KeepsCard : Meaning → Type 0 where
-  happens : {what : What} → KeepsCard (Happened what)
-  nothing : KeepsCard Nothing
+-- the card at door d comes from one stage to another by these lines: at its door no card is taken and the door isn't freed, and
+-- what happens there is its next stage
+pub data Comes (d : ℕ) : Stage → List Line → Stage → Type 0 where
+  end : {t : Stage} → Comes d t [] t
+  elsewhere : {t u : Stage} {line : Line} {lines : List Line} → (line .row .at ≡ d → ⊥) → Comes d t lines u → Comes d t (line ∷ lines) u
+  unmoved : {t u : Stage} {line : Line} {lines : List Line} → meaningOf line ≡ Nothing → Comes d t lines u → Comes d t (line ∷ lines) u
+  moved : {t u : Stage} {line : Line} {lines : List Line} {what : What} → line .row .at ≡ d → meaningOf line ≡ Happened what
+      → Comes d (After what) lines u → Comes d t (line ∷ lines) u
 
--- so it is with every line of these at door d
-pub data GoesOn (d : ℕ) : List Line → Type 0 where
-  end : GoesOn d []
-  then : {line : Line} {lines : List Line} → (line .row .at ≡ d → KeepsCard (meaningOf line)) → GoesOn d lines → GoesOn d (line ∷ lines)
-
--- the spell s at door d began in one of these lines, from row n on: there its person's card was taken, and it goes on since
+-- the spell s at door d began in one of these lines, from row n on: there its person's card was taken, and has come to its stage since
 pub data Began (d : ℕ) (s : Spell) : ℕ → List Line → Type 0 where
   here : {n : ℕ} {line : Line} {lines : List Line} → line .row .at ≡ d → meaningOf line ≡ Taken → s .row ≡ n → s .person ≡ line .row .person
-      → GoesOn d lines → Began d s n (line ∷ lines)
+      → Comes d Awaited lines (s .stage) → Began d s n (line ∷ lines)
   later : {n : ℕ} {line : Line} {lines : List Line} → Began d s (n + 1) lines → Began d s n (line ∷ lines)
 
 -- at a door with a card the spell began in these lines, or it is the one that was there before them
 pub data Since (d : ℕ) (was s : Spell) (n : ℕ) (lines : List Line) : Type 0 where
   no-card : s .stage ≡ NoCard → Since d was s n lines
   began : Began d s n lines → Since d was s n lines
-  goes-on : GoesOn d lines → s .row ≡ was .row → s .person ≡ was .person → (was .stage ≡ NoCard → s .stage ≡ NoCard) → Since d was s n lines
+  goes-on : (was .stage ≡ NoCard → ⊥) → Comes d (was .stage) lines (s .stage) → s .row ≡ was .row → s .person ≡ was .person → Since d was s n lines
 
 -- ---- all of it
 
@@ -150,7 +159,7 @@ pub record TellsTruly (spells : ℕ → Spell) (n : ℕ) (r : Record) (rows : Li
   pub of-a-grant : (before after : List StepRow) (row : StepRow) → rows ≡ before ++ (row ∷ after) → EndsGrant (row .kind)
       → rowOf (lastOf r before) row .answer ≡ Done
       → Granted (spellsOf spells n (heardOf r before) (row .at)) (getD (lastOf r before .holder) (row .at) 0)
-  -- the row and the person of a spell are those of its taken card
+  -- the row and the person of a spell are those of its taken card, and its stage is what happened to that card last
   pub since : (d : ℕ) → Since d (spells d) (spellsOf spells n (heardOf r rows) d) n (heardOf r rows)
   -- and the spells agree with the record at the end
   pub agree : Agree (spellsOf spells n (heardOf r rows)) (lastOf r rows)
