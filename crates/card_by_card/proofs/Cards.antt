@@ -3,22 +3,21 @@
 use Prim.Native.Nat.{ℕ}
 use mathlib.Core.Path.{_≡_, refl}
 use mathlib.Core.Bool.{Bool, true, false, cond, false≢true}
-use mathlib.Core.Logic.{⊎-elim}
 use mathlib.Core.List.{List, [], _∷_, _++_, map, append-nil}
 use borrow.Author.Tests.{eqb-true, eq-eqb}
-use lib.Dec.{eqb, ltb}
+use lib.Dec.{eqb}
 use Rattle.tables.specs.Tables.{orElse, andAlso}
-use Rattle.tables.proofs.Cases.{either, one-of}
 use Rattle.door.specs.declared.Door.{Door}
 use Rattle.door.specs.declared.does.Does.{Does}
 use Rattle.door.specs.Does.{effect}
 use Rattle.phases.specs.declared.table.Kind.{Kind}
 use Rattle.phases.specs.declared.table.Kind.the-variants.{Card, Decide, Green, Red, Walk, Tick, Passed, Lapsed, Dark, Ack, Unknown}
-use Rattle.phases.specs.Phase.{free, read, granted, green, walked, expired, denied, red, dimmed, closed, grants}
+use Rattle.phases.specs.Phase.{free, read, walked, expired, closed, grants}
 use Rattle.phases.specs.Kinds.{allows, namesPerson}
 use Rattle.record.proofs.Laws.{becomes}
 use Rattle.run_events.specs.Events.{RunEvent, event}
 use Rattle.run_events.specs.Told.{standingAt, whatBy}
+use Rattle.run_events.proofs.Doors.{a-green, a-red, a-walk, a-tick, a-dark, stands}
 use Rattle.card_by_card.specs.Serving.{endsCard, recorded}
 use Rattle.card_by_card.specs.Served.{servedAt, openOf}
 
@@ -48,22 +47,12 @@ module _ (n d p why : ℕ) (c : Door) where
       go : (t : Bool) → eqb why 0 ≡ t → c .phase ≡ read → Account n d p why c Decide (effect Decide p why c)
       go true e is = record { all = rw (e, is) }
       go false e is = record { all = rw (e, is, eq-eqb d d refl) }
-  accounts Green ok =
-      ⊎-elim (λ (is : c .phase ≡ granted). goes-on refl refl (rw is)) (λ (is : c .phase ≡ green). goes-on refl refl (rw is))
-      (one-of (c .phase) granted green ok)
-  accounts Red ok =
-      ⊎-elim (λ (is : c .phase ≡ denied). goes-on refl refl (rw is)) (λ (is : c .phase ≡ red). goes-on refl refl (rw is))
-      (one-of (c .phase) denied red ok)
-  accounts Walk ok = goes-on refl refl (rw (eqb-true (c .phase) green ok))
-  accounts Tick ok =
-      either (Account n d p why c Tick) (eqb (c .phase) green)
-      (λ is. either (Account n d p why c Tick) (ltb 1 (c .count)) (λ _. goes-on refl refl refl) (λ _. goes-on refl refl (rw (eqb-true (c .phase) green is))))
-      (λ _.
-      either (Account n d p why c Tick) (eqb (c .phase) red)
-      (λ is. either (Account n d p why c Tick) (ltb 1 (c .count)) (λ _. goes-on refl refl refl) (λ _. goes-on refl refl (rw (eqb-true (c .phase) red is))))
-      (λ _. goes-on refl refl refl))
+  accounts Green ok = goes-on refl refl (stands p why c a-green ok)
+  accounts Red ok = goes-on refl refl (stands p why c a-red ok)
+  accounts Walk ok = goes-on refl refl (stands p why c a-walk ok)
+  accounts Tick ok = goes-on refl refl (stands p why c a-tick ok)
   accounts Passed ok = record { all = rw (eqb-true (c .phase) walked ok, eq-eqb d d refl) }
   accounts Lapsed ok = record { all = rw (eqb-true (c .phase) expired ok, eq-eqb d d refl) }
-  accounts Dark ok = goes-on refl refl (rw (eqb-true (c .phase) dimmed ok))
+  accounts Dark ok = goes-on refl refl (stands p why c a-dark ok)
   accounts Ack ok = record { all = rw (eqb-true (c .phase) closed ok) }
   accounts Unknown ok = absurd (false≢true ok)

@@ -55,6 +55,29 @@ grant-stage (After Lapse) q p e = (cc, cc)
 pub is-granted : (s : Spell) (p : ℕ) → standing s ≡ GrantOf p → Granted s p
 is-granted s p e = let g = grant-stage (s .stage) (s .person) p e in record { stage = g .0; person = g .1 }
 
+-- the steps that do nothing to the card at their door
+pub data Quiet : Kind → Type 0 where
+  a-green : Quiet Green
+  a-red : Quiet Red
+  a-walk : Quiet Walk
+  a-tick : Quiet Tick
+  a-dark : Quiet Dark
+
+-- they leave standing what stood there
+pub stands : {k : Kind} (p why : ℕ) (c : Door) → Quiet k → allows k (c .phase) ≡ true → standingAt (becomes c (effect k p why c)) ≡ standingAt c
+unfolding allows effect standingAt grants andAlso
+stands p why c a-green ok = ⊎-elim (λ (is : c .phase ≡ granted). rw is) (λ (is : c .phase ≡ green). rw is) (one-of (c .phase) granted green ok)
+stands p why c a-red ok = ⊎-elim (λ (is : c .phase ≡ denied). rw is) (λ (is : c .phase ≡ red). rw is) (one-of (c .phase) denied red ok)
+stands p why c a-walk ok = rw (eqb-true (c .phase) green ok)
+stands p why c a-tick ok =
+    either (λ x. standingAt (becomes c x) ≡ standingAt c) (eqb (c .phase) green)
+    (λ is. either (λ x. standingAt (becomes c x) ≡ standingAt c) (ltb 1 (c .count)) (λ _. refl) (λ _. rw (eqb-true (c .phase) green is)))
+    (λ _.
+    either (λ x. standingAt (becomes c x) ≡ standingAt c) (eqb (c .phase) red)
+    (λ is. either (λ x. standingAt (becomes c x) ≡ standingAt c) (ltb 1 (c .count)) (λ _. refl) (λ _. rw (eqb-true (c .phase) red is)))
+    (λ _. refl))
+stands p why c a-dark ok = rw (eqb-true (c .phase) dimmed ok)
+
 -- ---- the ten steps
 
 -- a step in row n that does x at door d, which was c, where s was told: why is the record's reason
@@ -80,22 +103,12 @@ module _ (n d p why : ℕ) (c : Door) (s : Spell) (agree : standing s ≡ standi
       go : (t : Bool) → eqb why 0 ≡ t → s .person ≡ c .holder → Follows n d p why Decide c (effect Decide p why c) s
       go true e same = record { seen = rw (e, same); after = rw (e, same) }
       go false e same = record { seen = rw (e, same); after = rw e }
-  follows Green ok =
-      ⊎-elim (λ (is : c .phase ≡ granted). goes-on refl refl (rw is)) (λ (is : c .phase ≡ green). goes-on refl refl (rw is))
-      (one-of (c .phase) granted green ok)
-  follows Red ok =
-      ⊎-elim (λ (is : c .phase ≡ denied). goes-on refl refl (rw is)) (λ (is : c .phase ≡ red). goes-on refl refl (rw is))
-      (one-of (c .phase) denied red ok)
-  follows Walk ok = goes-on refl refl (rw (eqb-true (c .phase) green ok))
-  follows Tick ok =
-      either (λ x. Follows n d p why Tick c x s) (eqb (c .phase) green)
-      (λ is. either (λ x. Follows n d p why Tick c x s) (ltb 1 (c .count)) (λ _. goes-on refl refl refl) (λ _. goes-on refl refl (rw (eqb-true (c .phase) green is))))
-      (λ _.
-      either (λ x. Follows n d p why Tick c x s) (eqb (c .phase) red)
-      (λ is. either (λ x. Follows n d p why Tick c x s) (ltb 1 (c .count)) (λ _. goes-on refl refl refl) (λ _. goes-on refl refl (rw (eqb-true (c .phase) red is))))
-      (λ _. goes-on refl refl refl))
+  follows Green ok = goes-on refl refl (stands p why c a-green ok)
+  follows Red ok = goes-on refl refl (stands p why c a-red ok)
+  follows Walk ok = goes-on refl refl (stands p why c a-walk ok)
+  follows Tick ok = goes-on refl refl (stands p why c a-tick ok)
   follows Passed ok = let held = granted-to (rw (eqb-true (c .phase) walked ok)) in record { seen = rw (held .person); after = refl }
   follows Lapsed ok = let held = granted-to (rw (eqb-true (c .phase) expired ok)) in record { seen = rw (held .person); after = refl }
-  follows Dark ok = goes-on refl refl (rw (eqb-true (c .phase) dimmed ok))
+  follows Dark ok = goes-on refl refl (stands p why c a-dark ok)
   follows Ack ok = record { seen = refl; after = refl }
   follows Unknown ok = absurd (false≢true ok)
