@@ -1,80 +1,58 @@
--- What the answers tell of a door's card is what the record has open at that door: step by step, for one door. Assumes nothing.
+-- The account of one door at a step that is done: the card that was open and the one that is taken are the one that is recorded and
+-- the one that is open then. Assumes nothing.
 use Prim.Native.Nat.{ℕ}
-use mathlib.Core.Path.{_≡_, refl, sym, _∙_}
-use mathlib.Core.Bool.{true, false, cond, false≢true}
-use mathlib.Core.Logic.{⊎-elim}
-use mathlib.Core.List.{List, [], _∷_, _++_, append-nil}
+use mathlib.Core.Path.{_≡_, refl}
+use mathlib.Core.Bool.{Bool, true, false, cond, false≢true}
+use mathlib.Core.List.{List, [], _∷_, _++_, map, append-nil}
 use borrow.Author.Tests.{eqb-true, eq-eqb}
-use lib.Dec.{eqb, ltb}
+use lib.Dec.{eqb}
 use Rattle.tables.specs.Tables.{orElse, andAlso}
 use Rattle.door.specs.declared.Door.{Door}
-use Rattle.phases.specs.declared.table.Kind.{Kind}
-use Rattle.phases.specs.declared.table.Kind.the-variants.{Card, Decide, Green, Red, Walk, Tick, Passed, Lapsed, Dark, Ack, Unknown}
-use Rattle.phases.specs.Phase.{free, read, granted, green, walked, expired, denied, red, dimmed, closed, grants}
-use Rattle.phases.specs.Kinds.{StepRow, allows, namesPerson}
 use Rattle.door.specs.declared.does.Does.{Does}
 use Rattle.door.specs.Does.{effect}
-use Rattle.tables.proofs.Cases.{either, one-of}
-use Rattle.record.proofs.Laws.{becomes, tells}
-use Rattle.card_by_card.specs.Serving.{Line, Awaited, Granted, Shown, shown, shownAfter, entriesBy}
-use Rattle.card_by_card.specs.Served.{openAt, servedAt, isOpen, openOf}
+use Rattle.phases.specs.declared.table.Kind.{Kind}
+use Rattle.phases.specs.declared.table.Kind.the-variants.{Card, Decide, Green, Red, Walk, Tick, Passed, Lapsed, Dark, Ack, Unknown}
+use Rattle.phases.specs.Phase.{free, read, walked, expired, closed, grants}
+use Rattle.phases.specs.Kinds.{allows, namesPerson}
+use Rattle.record.proofs.Laws.{becomes}
+use Rattle.run_events.specs.Events.{RunEvent, event}
+use Rattle.run_events.specs.Told.{standingAt, whatBy}
+use Rattle.run_events.proofs.Doors.{a-green, a-red, a-walk, a-tick, a-dark, stands}
+use Rattle.card_by_card.specs.Serving.{endsCard, recorded}
+use Rattle.card_by_card.specs.Served.{servedAt, openOf}
 
--- the line of a step that was done at a door that was c
-abbrev pub doneLine : StepRow → Door → Does → Line
-doneLine row c x = record { row = row; answer = 0; phase = becomes c x .phase; reason = tells x }
-
--- what is open at a door, by its phase
-pub open-read : (c : Door) → c .phase ≡ read → openAt c ≡ shown (c .holder) Awaited
-unfolding openAt grants andAlso
-open-read c e = rw e
-
-pub open-grant : (c : Door) → grants (c .phase) ≡ true → openAt c ≡ shown (c .holder) Granted
-unfolding openAt
-open-grant c g = rw g
-
--- the persons of the card that a `card` takes
+-- the person of the card that a `card` takes
 abbrev pub taken : Kind → ℕ → List ℕ
 taken k p = cond (namesPerson k) (p ∷ []) []
 
--- a step that is done at a door with card `was` open: what is open then, and that a card is taken, recorded or stays open
-pub record Follows (row : StepRow) (c : Door) (x : Does) (was : Shown) : Type 0 where
-  pub after : shownAfter (row .kind) (doneLine row c x) was ≡ openAt (becomes c x)
-  pub all : openOf was ++ taken (row .kind) (row .person) ≡ servedAt (row .at) (entriesBy (row .kind) (doneLine row c x) was) ++ openOf (openAt (becomes c x))
+-- what a step that is done in row n, at door d, records of the person whom the door holds
+abbrev pub recordedBy : ℕ → ℕ → ℕ → Kind → ℕ → List RunEvent
+recordedBy n d holder k why = recorded (map (event n d holder) (whatBy k why))
 
--- a step that takes no card, records none and leaves open what was open
-goes-on : {row : StepRow} {c : Door} {x : Does} {was : Shown} → namesPerson (row .kind) ≡ false → entriesBy (row .kind) (doneLine row c x) was ≡ []
-    → shownAfter (row .kind) (doneLine row c x) was ≡ was → openAt (becomes c x) ≡ was → Follows row c x was
-unfolding servedAt
-goes-on {was} card none same after = record { after = same ∙ sym after; all = rw (card, none, after) (append-nil (openOf was)) }
+-- the account of a step that does x at door d, which was c
+pub record Account (n d p why : ℕ) (c : Door) (k : Kind) (x : Does) : Type 0 where
+  pub all : openOf (standingAt c) ++ taken k p ≡ servedAt d (recordedBy n d (c .holder) k why) ++ openOf (standingAt (becomes c x))
 
--- the ten steps
-module _ (d p : ℕ) (c : Door) where
-  abbrev by : Kind → StepRow
-  by k = record { kind = k; at = d; person = p }
+module _ (n d p why : ℕ) (c : Door) where
+  -- a step that takes no card, records none and leaves open what was open
+  goes-on : {k : Kind} {x : Does} → namesPerson k ≡ false → whatBy k why ≡ [] → standingAt (becomes c x) ≡ standingAt c → Account n d p why c k x
+  unfolding recorded servedAt
+  goes-on card none same = record { all = rw (card, none, same) (append-nil (openOf (standingAt c))) }
 
-  pub follows : (k : Kind) (why : ℕ) → allows k (c .phase) ≡ true → Follows (by k) c (effect k p why c) (openAt c)
-  unfolding allows effect shownAfter entriesBy servedAt openOf isOpen openAt orElse grants andAlso
-  follows Card why ok = record { after = refl; all = rw (eqb-true (c .phase) free ok) }
-  follows Decide why ok =
-      let is = eqb-true (c .phase) read ok in
-      either (λ x. Follows (by Decide) c x (openAt c)) (eqb why 0) (λ _. record { after = rw is; all = rw is })
-      (λ _. record { after = refl; all = rw (is, eq-eqb d d refl) })
-  follows Green why ok =
-      ⊎-elim (λ (is : c .phase ≡ granted). goes-on refl refl refl (rw is)) (λ (is : c .phase ≡ green). goes-on refl refl refl (rw is))
-      (one-of (c .phase) granted green ok)
-  follows Red why ok =
-      ⊎-elim (λ (is : c .phase ≡ denied). goes-on refl refl refl (rw is)) (λ (is : c .phase ≡ red). goes-on refl refl refl (rw is))
-      (one-of (c .phase) denied red ok)
-  follows Walk why ok = goes-on refl refl refl (rw (eqb-true (c .phase) green ok))
-  follows Tick why ok =
-      either (λ x. Follows (by Tick) c x (openAt c)) (eqb (c .phase) green)
-      (λ is. either (λ x. Follows (by Tick) c x (openAt c)) (ltb 1 (c .count)) (λ _. goes-on refl refl refl refl) (λ _. goes-on refl refl refl (rw (eqb-true (c .phase) green is))))
-      (λ _.
-      either (λ x. Follows (by Tick) c x (openAt c)) (eqb (c .phase) red)
-      (λ is. either (λ x. Follows (by Tick) c x (openAt c)) (ltb 1 (c .count)) (λ _. goes-on refl refl refl refl) (λ _. goes-on refl refl refl (rw (eqb-true (c .phase) red is))))
-      (λ _. goes-on refl refl refl refl))
-  follows Passed why ok = record { after = refl; all = rw (eqb-true (c .phase) walked ok, eq-eqb d d refl) }
-  follows Lapsed why ok = record { after = refl; all = rw (eqb-true (c .phase) expired ok, eq-eqb d d refl) }
-  follows Dark why ok = goes-on refl refl refl (rw (eqb-true (c .phase) dimmed ok))
-  follows Ack why ok = goes-on refl refl refl (rw (eqb-true (c .phase) closed ok))
-  follows Unknown why ok = absurd (false≢true ok)
+  pub accounts : (k : Kind) → allows k (c .phase) ≡ true → Account n d p why c k (effect k p why c)
+  unfolding allows effect whatBy recorded endsCard servedAt openOf standingAt grants orElse andAlso
+  accounts Card ok = record { all = rw (eqb-true (c .phase) free ok) }
+  accounts Decide ok = go (eqb why 0) refl (eqb-true (c .phase) read ok)
+    where
+      go : (t : Bool) → eqb why 0 ≡ t → c .phase ≡ read → Account n d p why c Decide (effect Decide p why c)
+      go true e is = record { all = rw (e, is) }
+      go false e is = record { all = rw (e, is, eq-eqb d d refl) }
+  accounts Green ok = goes-on refl refl (stands p why c a-green ok)
+  accounts Red ok = goes-on refl refl (stands p why c a-red ok)
+  accounts Walk ok = goes-on refl refl (stands p why c a-walk ok)
+  accounts Tick ok = goes-on refl refl (stands p why c a-tick ok)
+  accounts Passed ok = record { all = rw (eqb-true (c .phase) walked ok, eq-eqb d d refl) }
+  accounts Lapsed ok = record { all = rw (eqb-true (c .phase) expired ok, eq-eqb d d refl) }
+  accounts Dark ok = goes-on refl refl (stands p why c a-dark ok)
+  accounts Ack ok = record { all = rw (eqb-true (c .phase) closed ok) }
+  accounts Unknown ok = absurd (false≢true ok)

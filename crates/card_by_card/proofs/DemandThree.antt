@@ -2,45 +2,59 @@
 -- says is in `specs/Served.antt`; what is recorded and how it is served in `specs/Serving.antt`. Assumes nothing.
 use Prim.Native.Nat.{ℕ}
 use mathlib.Core.Path.{_≡_, sym, ap, subst, _∙_}
-use mathlib.Core.List.{List}
-use Rattle.tables.specs.Tables.{andAlso}
+use mathlib.Core.List.{List, [], _++_}
 use Rattle.record.specs.declared.record.Record.{Record}
-use Rattle.phases.specs.Phase.{grants}
+use Rattle.tables.specs.Tables.{mostPeople}
+use Rattle.door.specs.Door.{freeDoor}
 use Rattle.record.specs.Doors.{doorOf, tablesOf, zeros}
 use Rattle.record.specs.Run.{lastOf}
 use Rattle.phases.specs.Kinds.{StepRow}
-use Rattle.card_by_card.specs.Serving.{heardOf, noCards, recordedIn}
-use Rattle.card_by_card.specs.Served.{Fresh, DemandThree, openAt, isOpen, openOf}
-use Rattle.card_by_card.specs.Warden.{last}
+use Rattle.run_events.specs.Lines.{heardOf}
+use Rattle.run_events.specs.Events.{noSpells}
+use Rattle.run_events.specs.Told.{TellsTruly}
+use Rattle.run_events.proofs.Theorems.{fresh-agree, fresh-truly}
+use Rattle.card_by_card.specs.Serving.{recordedIn}
+use Rattle.card_by_card.specs.Served.{Fresh, DemandThree, takenAt, servedAt, openOf}
 use Rattle.card_by_card.proofs.Cleared.{clear, cleared, clear-free}
-use Rattle.card_by_card.proofs.Runs.{ServesAll, all-lead, all-decide, Whole, whole}
+use Rattle.card_by_card.proofs.Runs.{ServesAll, all-lead, all-decide, openIn, whole}
 
--- a fresh record is its own cleared record, and no card is open
+-- a fresh record is its own cleared record, and every door is free
 fresh-clear : (r : Record) → Fresh r → cleared r ≡ r
 fresh-clear r f = ap (λ (x : Record). clear (tablesOf r) (x .place)) (f .fresh) ∙ sym (f .fresh)
 
-fresh-open : (r : Record) → Fresh r → (d : ℕ) → noCards d ≡ openAt (doorOf r d)
-unfolding openAt grants andAlso
-fresh-open r f d = sym (ap (λ (x : Record). openAt (doorOf x d)) (f .fresh) ∙ ap openAt (clear-free (tablesOf r) (zeros 64) d))
+fresh-free : (r : Record) → Fresh r → (d : ℕ) → doorOf r d ≡ freeDoor
+fresh-free r f d = ap (λ (x : Record). doorOf x d) (f .fresh) ∙ clear-free (tablesOf r) (zeros mostPeople) d
 
-run : (r : Record) → Fresh r → (rows : List StepRow) → Whole r noCards (heardOf r rows) (lastOf r rows)
-run r f rows = whole rows r (f .shaped) (f .sound) noCards (fresh-open r f)
+truly : (r : Record) → Fresh r → (rows : List StepRow) → TellsTruly noSpells 1 r rows
+truly r f rows = fresh-truly r (f .shaped) (f .sound) (fresh-free r f) rows
 
 -- what was recorded is served from the fresh record to the real one with its doors cleared
 pub all-served : (r : Record) → Fresh r → (rows : List StepRow) → ServesAll r (recordedIn r rows) (cleared (lastOf r rows))
 all-served r f rows =
-    subst (λ (x : Record). ServesAll x (recordedIn r rows) (cleared (lastOf r rows))) (fresh-clear r f) (run r f rows .serves)
+    subst (λ (x : Record). ServesAll x (recordedIn r rows) (cleared (lastOf r rows))) (fresh-clear r f)
+    (rw (truly r f rows .events) (whole rows 1 r (f .shaped) (f .sound) .serves))
+
+-- of the cards taken at a door all are served but the one open
+nothing-open : (r : Record) → Fresh r → (d : ℕ) → openIn r d ≡ []
+unfolding openOf
+nothing-open r f d = ap openOf (sym (fresh-agree r (fresh-free r f) .each d))
+
+all-counted : (r : Record) → Fresh r → (rows : List StepRow) (d : ℕ) → takenAt d (heardOf r rows) ≡ servedAt d (recordedIn r rows) ++ openIn (lastOf r rows) d
+all-counted r f rows d =
+    rw (truly r f rows .events)
+    (ap (λ (l : List ℕ). l ++ takenAt d (heardOf r rows)) (sym (nothing-open r f d)) ∙ whole rows 1 r (f .shaped) (f .sound) .counts d)
 
 -- Demand 3, for every fresh record and every list of steps
 pub demand-3 : (r : Record) → Fresh r → (rows : List StepRow) → DemandThree r rows
-unfolding openOf isOpen
 demand-3 r f rows =
     let led = all-lead (all-served r f rows) in
+    let told = truly r f rows in
     record {
       acts = led .acts;
       decides = all-decide (all-served r f rows);
       all-free = λ d. ap (λ (x : Record). doorOf x d) (led .last) ∙ clear-free (tablesOf (lastOf r rows)) (lastOf r rows .place) d;
       places = ap (λ (x : Record). x .place) (led .last);
-      open-at-end = run r f rows .agrees;
-      unserved = run r f rows .counts;
+      told = told;
+      open-at-end = told .agree .each;
+      unserved = λ d. rw (told .agree .each d) (all-counted r f rows d);
     }

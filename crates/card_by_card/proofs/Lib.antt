@@ -1,5 +1,5 @@
 -- Demand 3 of every fresh record. `DemandThree` has the theorem and `Warden` what follows for people; the others prove their parts.
---     Cleared, Serial, Cards, Runs   the record with its doors cleared, one card served there, the card at one door of a real run,
+--     Cleared, Serial, Cards, Runs   the record with its doors cleared, one card served there, the account of one door of a real run,
 --                                    and a whole run
 pub mod Cleared
 pub mod Serial

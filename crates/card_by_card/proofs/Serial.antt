@@ -33,8 +33,9 @@ use Rattle.record.proofs.Keep.{put-same, put-other, put-shaped, at-shaped}
 use Rattle.record.proofs.Right.{reason-only}
 use Rattle.record.proofs.Laws.{allowed-does, sound-stays}
 use Rattle.record.proofs.Tells.{sound-tells}
-use Rattle.card_by_card.specs.Serving.{Decision, Granted, Denied, Ending, Refusal, Passage, Lapse, Entry, entry, isBusy, servedWith, servedAs, stepAt, cardOf, ticked, afterDecide, serviceOf}
-use Rattle.card_by_card.specs.Served.{Acts, end, then, Reads, granting, denying, decideOf}
+use Rattle.run_events.specs.Events.{What, Denial, Passage, Lapse, RunEvent, event}
+use Rattle.card_by_card.specs.Serving.{servedAs, stepAt, cardOf, ticked, afterDecide, serviceOf}
+use Rattle.card_by_card.specs.Served.{Acts, end, then, Reads, denying, passing, lapsing, decideOf}
 use Rattle.card_by_card.specs.Warden.{isPassage, placesBy}
 use Rattle.card_by_card.proofs.Cleared.{clear, cleared, clear-free, put-free, clear-shaped, clear-sound}
 
@@ -167,9 +168,9 @@ unfolding allows effect
 acked x d so = turn x d (door closed 0 0) so Ack freeDoor refl refl refl (λ _. leads-end _)
 
 module _ (x : Record) (d : ℕ) where
-  after-denial : At x d (door denied 0 0) → Leads (putDoor x d (door denied 0 0)) (afterDecide Refusal d) (putDoor x d freeDoor)
+  after-denial : (why : ℕ) → At x d (door denied 0 0) → Leads (putDoor x d (door denied 0 0)) (afterDecide (Denial why) d) (putDoor x d freeDoor)
   unfolding afterDecide allows effect orElse
-  after-denial so =
+  after-denial why so =
       turn x d (door denied 0 0) so Red (door red 0 redSpan) refl refl refl
       (burning x d red-light 0 (redSpan - 1)
       (λ out. turn x d (door dimmed 0 0) out Dark (door closed 0 0) refl refl refl (acked x d)))
@@ -208,13 +209,13 @@ module _ (x : Record) (d : ℕ) where
       turn x d (door granted h 0) so Green (door green h greenSpan) refl refl refl
       (λ lit-now. turn x d (door green h greenSpan) lit-now Walk (door walked h 0) refl refl refl (passes h))
 
--- ---- the whole service of an entry
+-- ---- the whole service of an event
 
--- a service begun at a record acts and leads to another, its `decide` gives the entry's decision, but for reason 3, and who is
+-- a service begun at a record acts and leads to another, its `decide` answers as the event's did, but for reason 3, and who is
 -- moved is who passed
-pub record Serves (r : Record) (e : Entry) (after : Record) : Type 0 where
+pub record Serves (r : Record) (e : RunEvent) (after : Record) : Type 0 where
   pub leads : Leads r (serviceOf e) after
-  pub decides : Reads (decideOf r e .phase) (decideOf r e .reason) (servedWith (e .decision))
+  pub decides : Reads (decideOf r e .phase) (decideOf r e .reason) (servedAs (e .what))
   pub moved : after .place ≡ placesBy (r .destination) (r .place) (e ∷ [])
   pub same-doors : after .destination ≡ r .destination
 
@@ -264,43 +265,44 @@ module _ (r : Record) (sh : Shaped r) (s : Sound r) (d : ℕ) (hd : d < r .doors
   unfolding allows effect
   decided-not why some e = turns-to x d (door read h 0) read-at Decide 0 (door denied 0 0) why (λ z. absurd (false≢true z)) refl (rw (e, ne-eqb why 0 some))
 
-  -- the service of an entry, from what its `decide` does and what follows
-  serves : (c : Door) (why : ℕ) (decision : Decision) (ending : Ending) (place : List ℕ) → Decided c why
-      → Reads (c .phase) why (servedWith decision) → place ≡ placesBy (r .destination) (r .place) (entry d h decision ending ∷ [])
-      → (At x d c → Leads (putDoor x d c) (afterDecide (servedAs decision ending) d) (putDoor (clear (tablesOf r) place) d freeDoor))
-      → Serves x (entry d h decision ending) (clear (tablesOf r) place)
-  unfolding serviceOf
-  serves c why decision ending place decided told moved on =
-      let card : stepOf x Card d h ≡ turned x d (door read h 0) 0 = rw (put-free (tablesOf r) (r .place) d) at card-turns in
-      record {
-        leads =
-            leads-then x (cardOf (entry d h decision ending)) (turned x d (door read h 0) 0) card refl
-            (leads-then (putDoor x d (door read h 0)) (stepAt Decide d) (turned x d c why) decided refl
-            (rw (put-free (tablesOf r) place d) at (on (at-next x d (door read h 0) read-at Decide 0 c why decided))));
-        decides = rw (card, decided) told;
-        moved = moved;
-        same-doors = refl;
-      }
+  -- the service of an event of row n, from what its `decide` does and what follows
+  module _ (n : ℕ) where
+    serves : (c : Door) (why : ℕ) (what : What) (place : List ℕ) → Decided c why → Reads (c .phase) why (servedAs what)
+        → place ≡ placesBy (r .destination) (r .place) (event n d h what ∷ [])
+        → (At x d c → Leads (putDoor x d c) (afterDecide (servedAs what) d) (putDoor (clear (tablesOf r) place) d freeDoor))
+        → Serves x (event n d h what) (clear (tablesOf r) place)
+    unfolding serviceOf
+    serves c why what place decided told moved on =
+        let card : stepOf x Card d h ≡ turned x d (door read h 0) 0 = rw (put-free (tablesOf r) (r .place) d) at card-turns in
+        record {
+          leads =
+              leads-then x (cardOf (event n d h what)) (turned x d (door read h 0) 0) card refl
+              (leads-then (putDoor x d (door read h 0)) (stepAt Decide d) (turned x d c why) decided refl
+              (rw (put-free (tablesOf r) place d) at (on (at-next x d (door read h 0) read-at Decide 0 c why decided))));
+          decides = rw (card, decided) told;
+          moved = moved;
+          same-doors = refl;
+        }
 
-  -- a refused card is served, and nothing is altered
-  pub serves-refusal : (why : ℕ) → (why ≡ 0 → ⊥) → First r d h why → Serves x (entry d h (Denied why) Refusal) x
-  unfolding servedWith servedAs isBusy placesBy isPassage
-  serves-refusal why some (none a) = absurd (some refl)
-  serves-refusal why some (away a) =
-      serves (door denied 0 0) 1 (Denied 1) Refusal (r .place) (decided-not 1 some (reason-alone 1 (away a))) (denying refl) refl (after-denial x d)
-  serves-refusal why some (barred a b) =
-      serves (door denied 0 0) 2 (Denied 2) Refusal (r .place) (decided-not 2 some (reason-alone 2 (barred a b))) (denying refl) refl (after-denial x d)
-  -- with reason 3 it is granted, and lapses unused
-  serves-refusal why some (busy a b e g) =
-      serves (door granted h 0) 0 (Denied 3) Refusal (r .place) (decided-yes (reason-alone 3 (busy a b e g))) (granting refl refl) refl (after-lapse x d h)
+    -- a refused card is served, and nothing is altered
+    pub serves-denial : (why : ℕ) → (why ≡ 0 → ⊥) → First r d h why → Serves x (event n d h (Denial why)) x
+    unfolding servedAs placesBy isPassage
+    serves-denial why some (none a) = absurd (some refl)
+    serves-denial why some (away a) =
+        serves (door denied 0 0) 1 (Denial 1) (r .place) (decided-not 1 some (reason-alone 1 (away a))) (denying refl) refl (after-denial x d 1)
+    serves-denial why some (barred a b) =
+        serves (door denied 0 0) 2 (Denial 2) (r .place) (decided-not 2 some (reason-alone 2 (barred a b))) (denying refl) refl (after-denial x d 2)
+    -- with reason 3 it is granted, and lapses unused
+    serves-denial why some (busy a b e g) =
+        serves (door granted h 0) 0 (Denial 3) (r .place) (decided-yes (reason-alone 3 (busy a b e g))) (lapsing refl refl) refl (after-lapse x d h)
 
-  -- a grant that the door holds in r is granted, and lapses ..
-  pub serves-lapse : First r d h 3 → Serves x (entry d h Granted Lapse) x
-  unfolding servedWith servedAs isBusy placesBy isPassage
-  serves-lapse first = serves (door granted h 0) 0 Granted Lapse (r .place) (decided-yes (reason-alone 3 first)) (granting refl refl) refl (after-lapse x d h)
+    -- a grant that the door holds in r is granted, and lapses ..
+    pub serves-lapse : First r d h 3 → Serves x (event n d h Lapse) x
+    unfolding servedAs placesBy isPassage
+    serves-lapse first = serves (door granted h 0) 0 Lapse (r .place) (decided-yes (reason-alone 3 first)) (lapsing refl refl) refl (after-lapse x d h)
 
-  -- .. or is used, and the person is in the door's destination
-  pub serves-passage : First r d h 3 → Serves x (entry d h Granted Passage) (clear (tablesOf r) (set (r .place) h (getD (r .destination) d 0)))
-  unfolding servedWith servedAs isBusy placesBy isPassage
-  serves-passage first =
-      serves (door granted h 0) 0 Granted Passage (set (r .place) h (getD (r .destination) d 0)) (decided-yes (reason-alone 3 first)) (granting refl refl) refl (after-passage x d h)
+    -- .. or is used, and the person is in the door's destination
+    pub serves-passage : First r d h 3 → Serves x (event n d h Passage) (clear (tablesOf r) (set (r .place) h (getD (r .destination) d 0)))
+    unfolding servedAs placesBy isPassage
+    serves-passage first =
+        serves (door granted h 0) 0 Passage (set (r .place) h (getD (r .destination) d 0)) (decided-yes (reason-alone 3 first)) (passing refl refl) refl (after-passage x d h)

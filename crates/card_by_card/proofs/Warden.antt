@@ -17,7 +17,8 @@ use Rattle.record.specs.Run.{lastOf}
 use Rattle.phases.specs.Kinds.{StepRow}
 use Rattle.tables.proofs.Cases.{same-or-not}
 use Rattle.record.proofs.Laws.{places-stay}
-use Rattle.card_by_card.specs.Serving.{Ending, Refusal, Passage, Lapse, Entry, recordedIn}
+use Rattle.run_events.specs.Events.{What, Grant, Denial, Passage, Lapse, RunEvent}
+use Rattle.card_by_card.specs.Serving.{recordedIn}
 use Rattle.card_by_card.specs.Served.{Fresh}
 use Rattle.card_by_card.specs.Warden.{isPassage, placesBy, NoPassage, end, then, StandsBy, never, last, PutByPassages, RefusedMovesNobody}
 use Rattle.record.proofs.Fresh.{zeros-at}
@@ -28,38 +29,39 @@ use Rattle.card_by_card.proofs.DemandThree.{all-served}
 -- ---- places by recorded passages
 
 -- services one after the other leave everyone where the passages among them put them
-all-moved : {x y : Record} {es : List Entry} → ServesAll x es y → y .place ≡ placesBy (x .destination) (x .place) es
+all-moved : {x y : Record} {es : List RunEvent} → ServesAll x es y → y .place ≡ placesBy (x .destination) (x .place) es
 unfolding placesBy
 all-moved none = refl
 all-moved (more {es} s on) = all-moved on ∙ rw (s .same-doors, s .moved)
 
-passage : (e : Ending) → isPassage e ≡ true → e ≡ Passage
+passage : (e : What) → isPassage e ≡ true → e ≡ Passage
 unfolding isPassage
-passage Refusal is = absurd (false≢true is)
+passage Grant is = absurd (false≢true is)
+passage (Denial why) is = absurd (false≢true is)
 passage Passage is = refl
 passage Lapse is = absurd (false≢true is)
 
-no-passage : (e : Ending) → isPassage e ≡ false → e ≡ Passage → ⊥
+no-passage : (e : What) → isPassage e ≡ false → e ≡ Passage → ⊥
 unfolding isPassage
 no-passage e is-not is = true≢false (sym (ap isPassage is) ∙ is-not)
 
--- a passage later in the list decides; where there is none, what the first entry left
-stands-on : {destination : List ℕ} {p start from n : ℕ} {e : Entry} {es : List Entry} → StandsBy destination p from es n
+-- a passage later in the list decides; where there is none, what the first event left
+stands-on : {destination : List ℕ} {p start from n : ℕ} {e : RunEvent} {es : List RunEvent} → StandsBy destination p from es n
     → (NoPassage p es → StandsBy destination p start (e ∷ es) from) → StandsBy destination p start (e ∷ es) n
 stands-on (never free) first = first free
-stands-on {e} (last before after e′ split ending person free) first =
-    last (e ∷ before) after e′ (ap (λ (l : List Entry). e ∷ l) split) ending person free
+stands-on {e} (last before after e′ split is person free) first =
+    last (e ∷ before) after e′ (ap (λ (l : List RunEvent). e ∷ l) split) is person free
 
 -- one person's place by the list of everyone's
-stands : (destination : List ℕ) (p : ℕ) (es : List Entry) (place : List ℕ) → p < length place
+stands : (destination : List ℕ) (p : ℕ) (es : List RunEvent) (place : List ℕ) → p < length place
     → StandsBy destination p (getD place p 0) es (getD (placesBy destination place es) p 0)
 unfolding placesBy
 stands destination p [] place h = never end
 stands destination p (e ∷ es) place h =
     let l = getD destination (e .at) 0 in
-    go l refl (isPassage (e .ending)) refl (stands destination p es (set place (e .person) l) (rw length-set h)) (stands destination p es place h)
+    go l refl (isPassage (e .what)) refl (stands destination p es (set place (e .person) l) (rw length-set h)) (stands destination p es place h)
   where
-    go : (l : ℕ) → l ≡ getD destination (e .at) 0 → (b : Bool) → isPassage (e .ending) ≡ b
+    go : (l : ℕ) → l ≡ getD destination (e .at) 0 → (b : Bool) → isPassage (e .what) ≡ b
         → StandsBy destination p (getD (set place (e .person) l) p 0) es (getD (placesBy destination (set place (e .person) l) es) p 0)
         → StandsBy destination p (getD place p 0) es (getD (placesBy destination place es) p 0)
         → StandsBy destination p (getD place p 0) (e ∷ es) (getD (placesBy destination (cond b (set place (e .person) l) place) es) p 0)
@@ -68,10 +70,10 @@ stands destination p (e ∷ es) place h =
         (λ free.
         ⊎-elim
         (λ (same : p ≡ e .person).
-        rw (same, getD-set-same place (e .person) l 0 (rw same at h), to) (last [] es e refl (passage (e .ending) is) refl (rw same at free)))
+        rw (same, getD-set-same place (e .person) l 0 (rw same at h), to) (last [] es e refl (passage (e .what) is) refl (rw same at free)))
         (λ other. rw (getD-set-other place (e .person) p l 0 other) (never (then (λ _ same. other (sym same)) free)))
         (same-or-not p (e .person)))
-    go l to false is-not moved still = stands-on still (λ free. never (then (λ is _. no-passage (e .ending) is-not is) free))
+    go l to false is-not moved still = stands-on still (λ free. never (then (λ is _. no-passage (e .what) is-not is) free))
 
 -- "No order or lateness of messages puts a person where no recorded passage put them."
 pub put-by-passages : (r : Record) → Fresh r → (rows : List StepRow) → PutByPassages r rows
@@ -91,22 +93,22 @@ put-by-passages r f rows =
 -- ---- refused cards
 
 -- the records before and after one service of many
-served-at : {x z : Record} (before : List Entry) (e : Entry) (after : List Entry) → ServesAll x (before ++ (e ∷ after)) z
+served-at : {x z : Record} (before : List RunEvent) (e : RunEvent) (after : List RunEvent) → ServesAll x (before ++ (e ∷ after)) z
     → (y : Record) × (y′ : Record) × ServesAll x before y × Serves y e y′
 served-at {x} [] e after (more {y} s on) = (x, y, none, s)
 served-at (b ∷ before) e after (more s on) = let at = served-at before e after on in (at .0, at .1, more s (at .2), at .3)
 
--- a refusal among the entries moves nobody
-refusal-still : (destination place : List ℕ) (e : Entry) (es : List Entry) → e .ending ≡ Refusal
+-- a refusal among the events moves nobody
+refusal-still : (destination place : List ℕ) (e : RunEvent) (es : List RunEvent) (why : ℕ) → e .what ≡ Denial why
     → placesBy destination place (e ∷ es) ≡ placesBy destination place es
 unfolding placesBy isPassage
-refusal-still destination place e es is = rw is
+refusal-still destination place e es why is = rw is
 
-strike : (destination place : List ℕ) (before after : List Entry) (e : Entry) → e .ending ≡ Refusal
+strike : (destination place : List ℕ) (before after : List RunEvent) (e : RunEvent) (why : ℕ) → e .what ≡ Denial why
     → placesBy destination place (before ++ (e ∷ after)) ≡ placesBy destination place (before ++ after)
 unfolding placesBy
-strike destination place [] after e is = refusal-still destination place e after is
-strike destination place (b ∷ before) after e is = strike destination _ before after e is
+strike destination place [] after e why is = refusal-still destination place e after why is
+strike destination place (b ∷ before) after e why is = strike destination _ before after e why is
 
 moves-nobody : (k : Kind) → (k ≡ Decide) ⊎ (k ≡ Card) → k ≡ Passed → ⊥
 moves-nobody k (inl e) is = let z : _≡_ {A = ℕ} 0 1 = cc in omega arith
@@ -120,11 +122,11 @@ refused-moves-nobody r f rows =
       in-the-run = λ before after row _ kind.
           ap (λ (x : Record). x .place) (last-both r before (row ∷ []))
           ∙ places-stay (lastOf r before) (row .kind) (row .at) (row .person) (moves-nobody (row .kind) kind);
-      in-the-serving = λ before after e split is.
+      in-the-serving = λ before after e why split is.
           let at = served-at before e after (rw split at (all-served r f rows)) in
           ap (λ (x : Record). x .place) (all-lead (serves-both (at .2) (more (at .3) none)) .last)
-          ∙ (at .3 .moved ∙ refusal-still (at .0 .destination) (at .0 .place) e [] is)
+          ∙ (at .3 .moved ∙ refusal-still (at .0 .destination) (at .0 .place) e [] why is)
           ∙ ap (λ (x : Record). x .place) (sym (all-lead (at .2) .last));
-      struck-out = λ before after e split is.
-          put-by-passages r f rows .places ∙ ap (placesBy (r .destination) (r .place)) split ∙ strike (r .destination) (r .place) before after e is;
+      struck-out = λ before after e why split is.
+          put-by-passages r f rows .places ∙ ap (placesBy (r .destination) (r .place)) split ∙ strike (r .destination) (r .place) before after e why is;
     }

@@ -9,31 +9,33 @@ use Rattle.record.specs.declared.record.Record.{Record}
 use Rattle.phases.specs.declared.table.Kind.the-variants.{Card, Decide}
 use Rattle.record.specs.Run.{lastOf}
 use Rattle.phases.specs.Kinds.{StepRow}
-use Rattle.card_by_card.specs.Serving.{Ending, Refusal, Passage, Lapse, Entry, recordedIn, services}
+use Rattle.run_events.specs.Events.{What, Grant, Denial, Passage, Lapse, RunEvent}
+use Rattle.card_by_card.specs.Serving.{recordedIn, services}
 
-unfoldable pub isPassage : Ending → Bool
-isPassage Refusal = false
+unfoldable pub isPassage : What → Bool
+isPassage Grant = false
+isPassage (Denial why) = false
 isPassage Passage = true
 isPassage Lapse = false
 
--- everyone's places after these entries: each recorded passage puts its person in its door's destination, and nothing else
+-- everyone's places after these events: each recorded passage puts its person in its door's destination, and nothing else
 -- moves anybody
-unfoldable pub placesBy : List ℕ → List ℕ → List Entry → List ℕ
+unfoldable pub placesBy : List ℕ → List ℕ → List RunEvent → List ℕ
 placesBy destination place [] = place
 placesBy destination place (e ∷ es) =
-    placesBy destination (cond (isPassage (e .ending)) (set place (e .person) (getD destination (e .at) 0)) place) es
+    placesBy destination (cond (isPassage (e .what)) (set place (e .person) (getD destination (e .at) 0)) place) es
 
--- no entry is a passage of person p
-pub data NoPassage (p : ℕ) : List Entry → Type 0 where
+-- no event is a passage of person p
+pub data NoPassage (p : ℕ) : List RunEvent → Type 0 where
   end : NoPassage p []
-  then : {e : Entry} {es : List Entry} → (e .ending ≡ Passage → e .person ≡ p → ⊥) → NoPassage p es → NoPassage p (e ∷ es)
+  then : {e : RunEvent} {es : List RunEvent} → (e .what ≡ Passage → e .person ≡ p → ⊥) → NoPassage p es → NoPassage p (e ∷ es)
 
--- person p, who stood in `start`, stands there still if the entries have no passage of p, and else in the destination of the
+-- person p, who stood in `start`, stands there still if the events have no passage of p, and else in the destination of the
 -- door of the last one
-pub data StandsBy (destination : List ℕ) (p start : ℕ) (entries : List Entry) : ℕ → Type 0 where
-  never : NoPassage p entries → StandsBy destination p start entries start
-  last : (before after : List Entry) (e : Entry) → entries ≡ before ++ (e ∷ after) → e .ending ≡ Passage → e .person ≡ p → NoPassage p after
-      → StandsBy destination p start entries (getD destination (e .at) 0)
+pub data StandsBy (destination : List ℕ) (p start : ℕ) (events : List RunEvent) : ℕ → Type 0 where
+  never : NoPassage p events → StandsBy destination p start events start
+  last : (before after : List RunEvent) (e : RunEvent) → events ≡ before ++ (e ∷ after) → e .what ≡ Passage → e .person ≡ p → NoPassage p after
+      → StandsBy destination p start events (getD destination (e .at) 0)
 
 -- "No order or lateness of messages puts a person where no recorded passage put them": whatever the list of steps, ..
 pub record PutByPassages (fresh : Record) (rows : List StepRow) : Type 0 where
@@ -48,8 +50,8 @@ pub record RefusedMovesNobody (fresh : Record) (rows : List StepRow) : Type 0 wh
   pub in-the-run : (before after : List StepRow) (row : StepRow) → rows ≡ before ++ (row ∷ after) → (row .kind ≡ Decide) ⊎ (row .kind ≡ Card)
       → lastOf fresh (before ++ (row ∷ [])) .place ≡ lastOf fresh before .place
   -- the service of a refused card moves nobody;
-  pub in-the-serving : (before after : List Entry) (e : Entry) → recordedIn fresh rows ≡ before ++ (e ∷ after) → e .ending ≡ Refusal
+  pub in-the-serving : (before after : List RunEvent) (e : RunEvent) (why : ℕ) → recordedIn fresh rows ≡ before ++ (e ∷ after) → e .what ≡ Denial why
       → lastOf fresh (services (before ++ (e ∷ []))) .place ≡ lastOf fresh (services before) .place
   -- and with the refused card struck from the list everyone would stand where they stand
-  pub struck-out : (before after : List Entry) (e : Entry) → recordedIn fresh rows ≡ before ++ (e ∷ after) → e .ending ≡ Refusal
+  pub struck-out : (before after : List RunEvent) (e : RunEvent) (why : ℕ) → recordedIn fresh rows ≡ before ++ (e ∷ after) → e .what ≡ Denial why
       → lastOf fresh rows .place ≡ placesBy (fresh .destination) (fresh .place) (before ++ after)

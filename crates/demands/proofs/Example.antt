@@ -11,13 +11,14 @@ use Rattle.record.specs.Doors.{zeros, freshRecord, putDoor, putAt}
 use Rattle.granting.specs.Grants.{grantsTo, grantOf, hasGrant}
 use Rattle.granting.specs.Reasons.{firstReason}
 use Rattle.record.specs.Steps.{reasonFor}
-use Rattle.card_by_card.specs.Serving.{Granted, Denied, noCards, shownAfter, cardAfter, remember, Refusal, Passage, entry, entriesBy, entriesOf, recorded}
+use Rattle.run_events.specs.Events.{Denial, Passage, event, meaningBy, meaningOf, noSpells, spellBy, spellsAfter, eventBy, eventsOf}
+use Rattle.card_by_card.specs.Serving.{endsCard, recorded}
 use Rattle.run_text.proofs.Examples.{site-of-01}
 use Rattle.demands.specs.WholeRun.{runOf01}
 
--- a refusal at door 1 for reason 1, then a passage at door 0
-pub recorded-of-01 : recorded noCards runOf01 ≡ entry 1 0 (Denied 1) Refusal ∷ entry 0 0 Granted Passage ∷ []
-unfolding recorded entriesOf entriesBy remember cardAfter shownAfter
+-- in row 6 a refusal at door 1 for reason 1, then in row 7 a passage at door 0
+pub recorded-of-01 : recorded (eventsOf noSpells 1 runOf01) ≡ event 6 1 0 (Denial 1) ∷ event 7 0 0 Passage ∷ []
+unfolding recorded endsCard eventsOf eventBy meaningOf meaningBy spellsAfter spellBy
 recorded-of-01 = refl
 
 -- ---- the two orders

@@ -27,7 +27,7 @@ use Rattle.record.specs.SoundTest.{soundB}
 use Rattle.door.specs.declared.does.Does.{Does}
 use Rattle.door.specs.declared.does.Does.the-variants.{Stays, Turns, Moves}
 use Rattle.record.specs.Steps.{act, exist, soundStep, stepOf}
-use Rattle.record.specs.Run.{rowOf, toldOf, answerTold, phaseTold, reasonTold}
+use Rattle.record.specs.Run.{rowOf, repliesOf}
 use Rattle.tables.proofs.Cases.{either}
 use Rattle.record.proofs.Laws.{sound-stays, shaped-stays}
 use Rattle.demands.specs.DemandOne.{DoesTold}
@@ -127,15 +127,15 @@ row-short n a p r hn ha hp hr =
     omega arith
 
 pub rows-short : (r : Record) → Shaped r → Sound r → (rows : List StepRow) (n : ℕ) → n + length rows ≤ 10000
-    → length (answerRows n (toldOf answerTold r rows) (toldOf phaseTold r rows) (toldOf reasonTold r rows)) ≤ 13 * length rows
-unfolding toldOf answerRows
+    → length (answerRows n (repliesOf r rows)) ≤ 13 * length rows
+unfolding repliesOf answerRows
 rows-short r sh s [] n h = omega arith
 rows-short r sh s (first ∷ rows) n h =
     let step = rowOf r first in
     let told = told-short r s (first .kind) (first .at) (first .person) in
-    let one = row-short n (answerTold step) (step .phase) (step .reason) (omega arith) (number-most (step .answer)) (told .phase-short) (told .reason-short) in
+    let one = row-short n (answerNo (step .answer)) (step .phase) (step .reason) (omega arith) (number-most (step .answer)) (told .phase-short) (told .reason-short) in
     let rest = rows-short (step .next) (shaped-stays r (first .kind) (first .at) (first .person) sh) (sound-stays r (first .kind) (first .at) (first .person) sh s) rows (n + 1) (omega arith) in
-    let l = length-append (panelRow n (answerTold step) (step .phase) (step .reason)) (answerRows (n + 1) (toldOf answerTold (step .next) rows) (toldOf phaseTold (step .next) rows) (toldOf reasonTold (step .next) rows)) in
+    let l = length-append (panelRow n (answerNo (step .answer)) (step .phase) (step .reason)) (answerRows (n + 1) (repliesOf (step .next) rows)) in
     omega arith
 
 -- ---- the rows of the people

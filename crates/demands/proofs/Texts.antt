@@ -19,7 +19,7 @@ use Rattle.grammar.proofs.Reading.{cut-there}
 use Rattle.record.specs.declared.record.Record.{Record}
 use Rattle.record.specs.Doors.{Shaped}
 use Rattle.record.specs.Sound.{Sound}
-use Rattle.record.specs.Run.{toldOf, answerTold, phaseTold, reasonTold}
+use Rattle.record.specs.Run.{repliesOf}
 use Rattle.tables.proofs.Cases.{either}
 use Rattle.record.proofs.Laws.{run-sound, run-shaped}
 use Rattle.site_sheet.specs.Site.{siteOf, verdictNo}
@@ -34,7 +34,7 @@ use Rattle.run_text.specs.Steps.{stepsHeaderAt, headed, headingOf, stepsFrom, r
 use Rattle.run_text.specs.Printed.{panelHeader, whereHeader, panelRow, answerRows, lastRow, runText, aloneText, ranText, stepsText, panelText}
 use Rattle.run_text.specs.Printed.{placeRows, placesText, recordText, lastRecord, whereText, fitsIn, printedOf, written, printedNo}
 use Rattle.run_text.proofs.Writing.{four-width}
-use Rattle.run_text.proofs.Serving.{steps-even, steps-told, rows-length}
+use Rattle.run_text.proofs.Serving.{steps-even, steps-replied, rows-length}
 use Rattle.run_text.proofs.Sheets.{zero-accepted, headed-short}
 use Rattle.demands.specs.DemandOne.{HeadingTold, TextTells, RunAnswers}
 use Rattle.demands.specs.Telling.{OneOf}
@@ -100,12 +100,12 @@ ran-fits r sh s sheet from h =
     let rows = rowsIn steps in
     let even = steps-even sheet (rowsFrom sheet from) in
     let most = steps-few sheet from in
-    let told : length (toldOf answerTold r (rowsIn (stepsFrom sheet from))) ≡ length (stepsFrom sheet from .kinds) = steps-told answerTold r even in
+    let told : length (repliesOf r (rowsIn (stepsFrom sheet from))) ≡ length (stepsFrom sheet from .kinds) = steps-replied r even in
     let count : length (rowsIn (stepsFrom sheet from)) ≡ length (stepsFrom sheet from .kinds) = rows-length _ _ _ (even .doors-too) (even .persons-too) in
-    let answers = answerRows 1 (toldOf answerTold r rows) (toldOf phaseTold r rows) (toldOf reasonTold r rows) in
-    let end = lastRow (steps .whole) (length (toldOf answerTold r rows) + 1) in
+    let answers = answerRows 1 (repliesOf r rows) in
+    let end = lastRow (steps .whole) (length (repliesOf r rows) + 1) in
     let short = rows-short r sh s rows 1 (omega (arith, count, most)) in
-    let bad = last-fits (steps .whole) (length (toldOf answerTold r rows) + 1) (omega (arith, told, most)) in
+    let bad = last-fits (steps .whole) (length (repliesOf r rows) + 1) (omega (arith, told, most)) in
     let l = length-append panelHeader (answers ++ end) in
     let m = length-append answers end in
     omega arith

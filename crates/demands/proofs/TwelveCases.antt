@@ -24,7 +24,7 @@ use Rattle.record.specs.Steps.{act, exist, soundStep}
 use Rattle.record.specs.SoundTest.{soundB}
 use Rattle.record.specs.Questions.{wayAnswerOf, wayWritten}
 use Rattle.phases.specs.declared.answer.WayAnswer.the-variants.{Length}
-use Rattle.record.specs.Run.{rowOf, lastOf, toldOf}
+use Rattle.record.specs.Run.{rowOf, lastOf, repliesOf}
 use Rattle.record.proofs.Laws.{sound-steps, sound-stays, shaped-stays, run-sound, run-shaped}
 use Rattle.record.proofs.Tells.{sound-tells}
 use Rattle.grammar.specs.Cut.{bareMove, shutMove, moveOf, endOf, fieldFrom, pushed, rowFrom, cutRow}
@@ -34,11 +34,12 @@ use Rattle.verdict.specs.declared.Verdict.the-variants.{Accepted, NoExit, Stray
 use Rattle.site_sheet.specs.Draft.{unmarked, siteRowFits, takeSite, doorRowFits, takeDoor, exitRowFits, takeExit, rightRowFits, takeRight, takeLine}
 use Rattle.site_sheet.specs.Line.{wordOf, siteLineAt, siteHeaderAt}
 use Rattle.site_sheet.specs.Site.{linesIn, readLines, judged, settled, afterHeader, siteOf}
-use Rattle.card_by_card.specs.Serving.{Line, linesOf, heardOf, stepAt, ticked}
+use Rattle.run_events.specs.Lines.{Line, linesOf, heardOf}
+use Rattle.card_by_card.specs.Serving.{stepAt, ticked}
 use Rattle.card_by_card.specs.Served.{Fresh}
 use Rattle.demands.specs.Cases.{withoutExit, exitsInACircle, withoutDoor, withoutRightOf0, withoutRightOf1, freshSite, reasonAt, phaseAt, cardAt, goesThrough, greenFor, TwelveCases}
 use Rattle.demands.specs.WholeRun.{runOf01, rowsHeard}
-use Rattle.card_by_card.proofs.Runs.{lineOf}
+use Rattle.run_events.proofs.Steps.{lineOf}
 use Rattle.run_text.specs.Examples.{siteSheet}
 use Rattle.run_text.proofs.Examples.{soundLast, sound-last, site-of-01}
 use Rattle.demands.proofs.Accepted.{accepted-fresh}
@@ -89,7 +90,7 @@ soundHeard r (row ∷ rows) =
     lineOf row s ∷ soundHeard (s .next) rows
 
 sound-heard : (rows : List StepRow) (r : Record) → Shaped r → Sound r → heardOf r rows ≡ soundHeard r rows
-unfolding heardOf linesOf toldOf soundHeard
+unfolding heardOf linesOf repliesOf soundHeard
 sound-heard [] r sh s = refl
 sound-heard (row ∷ rows) r sh s =
     ap (λ (l : List Line). lineOf row (rowOf r row) ∷ l)

@@ -5,7 +5,7 @@
 use Prim.Native.Nat.{ℕ, _≤_, _<_}
 use mathlib.Core.Path.{_≡_}
 use mathlib.Core.Bool.{Bool, true, false}
-use mathlib.Core.List.{List, [], _∷_, _++_}
+use mathlib.Core.List.{List, [], _∷_, _++_, map}
 use mathlib.Core.Logic.{_⊎_, _↔_}
 use lib.ListN.{length, getD, set, drop}
 use lib.Seq.{sets}
@@ -56,7 +56,7 @@ use Rattle.phases.specs.Table.{asked}
 use Rattle.record.specs.Sound.{ZeroBeyond, Sound}
 use Rattle.record.specs.SoundTest.{soundB}
 use Rattle.record.specs.Steps.{stepOf}
-use Rattle.record.specs.Run.{rowsOf, lastOf, toldOf, answerTold, phaseTold, reasonTold, runOf, answersOf, phasesOf, reasonsOf}
+use Rattle.record.specs.Run.{rowsOf, lastOf, repliesOf, answerTold, phaseTold, reasonTold, runOf, answersOf, phasesOf, reasonsOf}
 use Rattle.record.specs.Questions.{placeOf, grantedTo, wayAnswerOf, wayWritten}
 use Rattle.verdict.specs.declared.Verdict.{Verdict}
 use Rattle.site_sheet.specs.Site.{siteOf, blankRecord, firstPlace, secondPlace}
@@ -238,9 +238,9 @@ pub record RunTells (r : Record) (steps doors persons answers phases reasons : L
   -- else the last record of the steps, and what was told of each in front of each list, the rest unaltered
   pub ran : runOf r steps doors persons answers phases reasons .answer ≡ Done
       → (runOf r steps doors persons answers phases reasons .next ≡ lastOf r (rowsOf steps doors persons))
-      × (answersOf r steps doors persons answers phases reasons ≡ sets answers 0 (toldOf answerTold r (rowsOf steps doors persons)))
-      × (phasesOf r steps doors persons answers phases reasons ≡ sets phases 0 (toldOf phaseTold r (rowsOf steps doors persons)))
-      × (reasonsOf r steps doors persons answers phases reasons ≡ sets reasons 0 (toldOf reasonTold r (rowsOf steps doors persons)))
+      × (answersOf r steps doors persons answers phases reasons ≡ sets answers 0 (map answerTold (repliesOf r (rowsOf steps doors persons))))
+      × (phasesOf r steps doors persons answers phases reasons ≡ sets phases 0 (map phaseTold (repliesOf r (rowsOf steps doors persons))))
+      × (reasonsOf r steps doors persons answers phases reasons ≡ sets reasons 0 (map reasonTold (repliesOf r (rowsOf steps doors persons))))
 
 -- "A refused question tells its number, and 0 or none for all else."
 pub record PlaceTells (r : Record) (p : ℕ) : Type 0 where

@@ -33,7 +33,7 @@ use Rattle.chapter.specs.Machines.{Same}
 use Rattle.chapter.specs.M4.{Event}
 use Rattle.chapter.specs.M4 as m4
 use Rattle.chapter.specs.Reading.{constantsOf, stateOf, StandsFor, Enabled, Idle, FirstFailing, RunOfEach}
-use Rattle.card_by_card.specs.Serving.{heardOf}
+use Rattle.run_events.specs.Lines.{heardOf}
 use Rattle.demands.specs.Cases.{freshSite}
 use Rattle.demands.specs.WholeRun.{runOf01, rowsHeard}
 

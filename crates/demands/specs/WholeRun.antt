@@ -4,12 +4,12 @@ use mathlib.Core.List.{List, [], _∷_}
 use Rattle.phases.specs.declared.table.Kind.{Kind}
 use Rattle.phases.specs.declared.table.Kind.the-variants.{Card, Decide, Green, Red, Walk, Passed}
 use Rattle.phases.specs.Kinds.{StepRow}
-use Rattle.card_by_card.specs.Serving.{Line}
+use Rattle.run_events.specs.Lines.{Line}
 
 -- a step of the steps sheet, and what the panel prints of it
 abbrev pub printedLine : Kind → ℕ → ℕ → ℕ → ℕ → ℕ → Line
 printedLine kind d person answer phase reason =
-    record { row = record { kind = kind; at = d; person = person }; answer = answer; phase = phase; reason = reason }
+    record { row = record { kind = kind; at = d; person = person }; reply = record { answer = answer; phase = phase; reason = reason } }
 
 abbrev pub runOf01 : List Line
 runOf01 =

@@ -2,7 +2,7 @@
 use Prim.Native.Nat.{ℕ, _+_, _≤_, _<_}
 use mathlib.Core.Path.{_≡_, refl, sym, subst, _∙_}
 use mathlib.Core.Bool.{Bool, true, false, not}
-use mathlib.Core.List.{List, [], _∷_}
+use mathlib.Core.List.{List, [], _∷_, map}
 use native.Mathlib.Numerals.{add-one}
 use native.Mathlib.Omega.{arith}
 use borrow.Author.Tests.{not-true, not-false}
@@ -20,7 +20,7 @@ use Rattle.phases.specs.Kinds.{StepRow, kindOf}
 use Rattle.record.specs.Sound.{Sound}
 use Rattle.record.specs.SoundTest.{soundB}
 use Rattle.record.specs.Steps.{soundStep, stepOf}
-use Rattle.record.specs.Run.{rowOf, rowsOf, lastOf, toldOf, answerTold, phaseTold, reasonTold, roomFor, ranOf, tellingOf}
+use Rattle.record.specs.Run.{rowOf, rowsOf, lastOf, Reply, replyBy, repliesOf, answerTold, phaseTold, reasonTold, roomFor, ranOf, tellingOf}
 use Rattle.record.proofs.Laws.{sound-steps, sound-stays, shaped-stays}
 
 -- the steps from the one at i on
@@ -48,9 +48,9 @@ unfolding rowsOf
 rows-end steps doors persons i h = rw (drop-of-length-le steps h)
 
 -- what is still to be told of the steps from i on stands behind what was told of those before
-pub record Telling (tell : Step → ℕ) (r₀ : Record) (rows₀ : List StepRow) (list₀ : List ℕ) (r : Record) (rows : List StepRow) (list : List ℕ) (i : ℕ) : Type 0 where
+pub record Telling (tell : Reply → ℕ) (r₀ : Record) (rows₀ : List StepRow) (list₀ : List ℕ) (r : Record) (rows : List StepRow) (list : List ℕ) (i : ℕ) : Type 0 where
   pub long : length list ≡ length list₀
-  pub behind : sets list i (toldOf tell r rows) ≡ sets list₀ 0 (toldOf tell r₀ rows₀)
+  pub behind : sets list i (map tell (repliesOf r rows)) ≡ sets list₀ 0 (map tell (repliesOf r₀ rows₀))
 
 -- the loop has come to step i, with the record r
 pub record Running (steps doors persons answers₀ phases₀ reasons₀ : List ℕ) (r₀ : Record) (answers phases reasons : List ℕ) (r : Record) (i : ℕ) : Type 0 where
@@ -76,22 +76,22 @@ run-start s sh =
     }
 
 -- one more is told
-tell-more : (tell : Step → ℕ) (r₀ r : Record) (rows₀ rows rest : List StepRow) (row : StepRow) (list₀ list : List ℕ) (i : ℕ) (s : Step)
+tell-more : (tell : Reply → ℕ) (r₀ r : Record) (rows₀ rows rest : List StepRow) (row : StepRow) (list₀ list : List ℕ) (i : ℕ) (s : Step)
     → rows ≡ row ∷ rest → s ≡ rowOf r row → Telling tell r₀ rows₀ list₀ r rows list i
-    → Telling tell r₀ rows₀ list₀ (s .next) rest (set list i (tell s)) (i + 1)
-unfolding toldOf
+    → Telling tell r₀ rows₀ list₀ (s .next) rest (set list i (tell (replyBy s))) (i + 1)
+unfolding repliesOf
 tell-more tell r₀ r rows₀ rows rest row list₀ list i s more is t =
     record {
-      long = length-set list i (tell s) ∙ t .long;
-      behind = rw (add-one i, is) (subst (λ (x : List StepRow). sets list i (toldOf tell r x) ≡ sets list₀ 0 (toldOf tell r₀ rows₀)) more (t .behind));
+      long = length-set list i (tell (replyBy s)) ∙ t .long;
+      behind = rw (add-one i, is) (subst (λ (x : List StepRow). sets list i (map tell (repliesOf r x)) ≡ sets list₀ 0 (map tell (repliesOf r₀ rows₀))) more (t .behind));
     }
 
 -- all is told
-tell-end : {tell : Step → ℕ} {r₀ r : Record} {rows₀ rows : List StepRow} {list₀ list : List ℕ} {i : ℕ} → rows ≡ []
-    → Telling tell r₀ rows₀ list₀ r rows list i → list ≡ sets list₀ 0 (toldOf tell r₀ rows₀)
-unfolding toldOf
+tell-end : {tell : Reply → ℕ} {r₀ r : Record} {rows₀ rows : List StepRow} {list₀ list : List ℕ} {i : ℕ} → rows ≡ []
+    → Telling tell r₀ rows₀ list₀ r rows list i → list ≡ sets list₀ 0 (map tell (repliesOf r₀ rows₀))
+unfolding repliesOf
 tell-end {tell} {r₀} {r} {rows₀} {rows} {list₀} {list} {i} none t =
-    subst (λ (x : List StepRow). sets list i (toldOf tell r x) ≡ sets list₀ 0 (toldOf tell r₀ rows₀)) none (t .behind)
+    subst (λ (x : List StepRow). sets list i (map tell (repliesOf r x)) ≡ sets list₀ 0 (map tell (repliesOf r₀ rows₀))) none (t .behind)
 
 module _ {steps doors persons answers₀ phases₀ reasons₀ : List ℕ} {r₀ : Record} {answers phases reasons : List ℕ} {r : Record} {i : ℕ} where
   pub run-more : (s : Step) → Running steps doors persons answers₀ phases₀ reasons₀ r₀ answers phases reasons r i → Has steps doors persons i
@@ -120,13 +120,13 @@ module _ {steps doors persons answers₀ phases₀ reasons₀ : List ℕ} {r₀ 
     unfolding lastOf
     run-last = rw (rows-end steps doors persons i over) at (run .last)
 
-    pub run-answers : answers ≡ sets answers₀ 0 (toldOf answerTold r₀ (rowsOf steps doors persons))
+    pub run-answers : answers ≡ sets answers₀ 0 (map answerTold (repliesOf r₀ (rowsOf steps doors persons)))
     run-answers = tell-end (rows-end steps doors persons i over) (run .answered)
 
-    pub run-phases : phases ≡ sets phases₀ 0 (toldOf phaseTold r₀ (rowsOf steps doors persons))
+    pub run-phases : phases ≡ sets phases₀ 0 (map phaseTold (repliesOf r₀ (rowsOf steps doors persons)))
     run-phases = tell-end (rows-end steps doors persons i over) (run .phased)
 
-    pub run-reasons : reasons ≡ sets reasons₀ 0 (toldOf reasonTold r₀ (rowsOf steps doors persons))
+    pub run-reasons : reasons ≡ sets reasons₀ 0 (map reasonTold (repliesOf r₀ (rowsOf steps doors persons)))
     run-reasons = tell-end (rows-end steps doors persons i over) (run .reasoned)
 
 -- ---- how a run ends: s is what the test of soundness told, b whether there is room

@@ -1,7 +1,7 @@
 -- The run of a list of steps: the fold of `stepOf`.
 use Prim.Native.Nat.{ℕ}
 use mathlib.Core.Bool.{Bool, cond}
-use mathlib.Core.List.{List, [], _∷_}
+use mathlib.Core.List.{List, [], _∷_, map}
 use lib.ListN.{length}
 use lib.Seq.{sets}
 use lib.Dec.{leb}
@@ -25,20 +25,29 @@ unfoldable pub lastOf : Record → List StepRow → Record
 lastOf r [] = r
 lastOf r (row ∷ rows) = lastOf (rowOf r row .next) rows
 
--- what is told of each step, one after the other
-unfoldable pub toldOf : (Step → ℕ) → Record → List StepRow → List ℕ
-toldOf tell r [] = []
-toldOf tell r (row ∷ rows) = tell (rowOf r row) ∷ toldOf tell (rowOf r row .next) rows
-
 -- "A step answers its number, the door's phase afterwards .. and the reason"
-abbrev pub answerTold : Step → ℕ
-answerTold s = answerNo (s .answer)
+pub record Reply : Type 0 where
+  pub answer : ℕ
+  pub phase : ℕ
+  pub reason : ℕ
 
-abbrev pub phaseTold : Step → ℕ
-phaseTold s = s .phase
+abbrev pub replyBy : Step → Reply
+replyBy s = record { answer = answerNo (s .answer); phase = s .phase; reason = s .reason }
 
-abbrev pub reasonTold : Step → ℕ
-reasonTold s = s .reason
+-- what is told of each step, one after the other
+unfoldable pub repliesOf : Record → List StepRow → List Reply
+repliesOf r [] = []
+repliesOf r (row ∷ rows) = replyBy (rowOf r row) ∷ repliesOf (rowOf r row .next) rows
+
+-- the parts of it: a lent list holds one of them for each step
+abbrev pub answerTold : Reply → ℕ
+answerTold x = x .answer
+
+abbrev pub phaseTold : Reply → ℕ
+phaseTold x = x .phase
+
+abbrev pub reasonTold : Reply → ℕ
+reasonTold x = x .reason
 
 -- three lent lists of numbers are a list of steps: each step's number, its door and its person
 unfoldable pub rowsOf : List ℕ → List ℕ → List ℕ → List StepRow
@@ -77,12 +86,12 @@ runOf r steps doors persons answers phases reasons = ranOf r (rowsOf steps doors
 
 abbrev pub answersOf : Record → List ℕ → List ℕ → List ℕ → List ℕ → List ℕ → List ℕ → List ℕ
 answersOf r steps doors persons answers phases reasons =
-    tellingOf r (roomIn steps doors persons answers phases reasons) (toldOf answerTold r (rowsOf steps doors persons)) answers
+    tellingOf r (roomIn steps doors persons answers phases reasons) (map answerTold (repliesOf r (rowsOf steps doors persons))) answers
 
 abbrev pub phasesOf : Record → List ℕ → List ℕ → List ℕ → List ℕ → List ℕ → List ℕ → List ℕ
 phasesOf r steps doors persons answers phases reasons =
-    tellingOf r (roomIn steps doors persons answers phases reasons) (toldOf phaseTold r (rowsOf steps doors persons)) phases
+    tellingOf r (roomIn steps doors persons answers phases reasons) (map phaseTold (repliesOf r (rowsOf steps doors persons))) phases
 
 abbrev pub reasonsOf : Record → List ℕ → List ℕ → List ℕ → List ℕ → List ℕ → List ℕ → List ℕ
 reasonsOf r steps doors persons answers phases reasons =
-    tellingOf r (roomIn steps doors persons answers phases reasons) (toldOf reasonTold r (rowsOf steps doors persons)) reasons
+    tellingOf r (roomIn steps doors persons answers phases reasons) (map reasonTold (repliesOf r (rowsOf steps doors persons))) reasons

@@ -1,11 +1,12 @@
 // The run of a list of steps. The record is tested once; then each step goes to the record that the
 // step before it handed back.
 ghost use mathlib.Core.Path.{_≡_};
+ghost use mathlib.Core.List.{map};
 ghost use Prim.Native.Nat.{_≤_};
 ghost use lib.ListN.{length};
 ghost use lib.Seq.{sets};
 ghost use Rattle.record.specs.Sound.{Sound};
-ghost use Rattle.record.specs.Run.{rowsOf, lastOf, toldOf, answerTold, phaseTold, reasonTold};
+ghost use Rattle.record.specs.Run.{rowsOf, lastOf, repliesOf, answerTold, phaseTold, reasonTold};
 ghost use Rattle.record.specs.Run.{roomFor, runOf, answersOf, phasesOf, reasonsOf};
 use crate::record::Record;
 use crate::steps::carry_out;
@@ -61,9 +62,9 @@ impl Record {
         requires { ⌜ (length (now steps) ≤ length (now doors)) × (length (now steps) ≤ length (now persons)) ⌝ }
         requires { ⌜ (length (now steps) ≤ length (now answers)) × (length (now steps) ≤ length (now phases)) × (length (now steps) ≤ length (now reasons)) ⌝ }
         ensures last { λ r. ⌜ r ≡ lastOf self (rowsOf (now (steps .entry)) (now (doors .entry)) (now (persons .entry))) ⌝ }
-        ensures answers { λ _. ⌜ now (answers .exit) ≡ sets (now (answers .entry)) 0 (toldOf answerTold self (rowsOf (now (steps .entry)) (now (doors .entry)) (now (persons .entry)))) ⌝ }
-        ensures phases { λ _. ⌜ now (phases .exit) ≡ sets (now (phases .entry)) 0 (toldOf phaseTold self (rowsOf (now (steps .entry)) (now (doors .entry)) (now (persons .entry)))) ⌝ }
-        ensures reasons { λ _. ⌜ now (reasons .exit) ≡ sets (now (reasons .entry)) 0 (toldOf reasonTold self (rowsOf (now (steps .entry)) (now (doors .entry)) (now (persons .entry)))) ⌝ }
+        ensures answers { λ _. ⌜ now (answers .exit) ≡ sets (now (answers .entry)) 0 (map answerTold (repliesOf self (rowsOf (now (steps .entry)) (now (doors .entry)) (now (persons .entry))))) ⌝ }
+        ensures phases { λ _. ⌜ now (phases .exit) ≡ sets (now (phases .entry)) 0 (map phaseTold (repliesOf self (rowsOf (now (steps .entry)) (now (doors .entry)) (now (persons .entry))))) ⌝ }
+        ensures reasons { λ _. ⌜ now (reasons .exit) ≡ sets (now (reasons .entry)) 0 (map reasonTold (repliesOf self (rowsOf (now (steps .entry)) (now (doors .entry)) (now (persons .entry))))) ⌝ }
     {
         let mut place = self.place;
         let mut phase = self.phase;

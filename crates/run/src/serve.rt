@@ -1,11 +1,12 @@
 // The steps of a sheet, run on the record of a site.
 ghost use mathlib.Core.Path.{_≡_};
 ghost use mathlib.Core.Bool.{true};
+ghost use mathlib.Core.List.{map};
 ghost use Prim.Native.Nat.{_≤_};
 ghost use lib.ListN.{length};
 ghost use lib.Seq.{sets};
 ghost use Rattle.record.specs.SoundTest.{soundB};
-ghost use Rattle.record.specs.Run.{toldOf, answerTold, phaseTold, reasonTold};
+ghost use Rattle.record.specs.Run.{repliesOf, answerTold, phaseTold, reasonTold};
 ghost use Rattle.grammar.specs.Sizes.{limit};
 ghost use Rattle.run_text.specs.Steps.{stepsFrom, rowsIn, mostSteps};
 ghost use Rattle.run_text.specs.Printed.{servedOf};
@@ -28,9 +29,9 @@ pub(crate) fn serve<'a>(
     requires { ⌜ (mostSteps ≤ length (now answers)) × (mostSteps ≤ length (now phases)) × (mostSteps ≤ length (now reasons)) ⌝ }
     ensures served { λ r. ⌜ r ≡ servedOf fresh (stepsFrom (now (s .entry)) from) ⌝ }
     ensures few { λ r. ⌜ r .count ≤ mostSteps ⌝ }
-    ensures answers { λ _. ⌜ now (answers .exit) ≡ sets (now (answers .entry)) 0 (toldOf answerTold fresh (rowsIn (stepsFrom (now (s .entry)) from))) ⌝ }
-    ensures phases { λ _. ⌜ now (phases .exit) ≡ sets (now (phases .entry)) 0 (toldOf phaseTold fresh (rowsIn (stepsFrom (now (s .entry)) from))) ⌝ }
-    ensures reasons { λ _. ⌜ now (reasons .exit) ≡ sets (now (reasons .entry)) 0 (toldOf reasonTold fresh (rowsIn (stepsFrom (now (s .entry)) from))) ⌝ }
+    ensures answers { λ _. ⌜ now (answers .exit) ≡ sets (now (answers .entry)) 0 (map answerTold (repliesOf fresh (rowsIn (stepsFrom (now (s .entry)) from)))) ⌝ }
+    ensures phases { λ _. ⌜ now (phases .exit) ≡ sets (now (phases .entry)) 0 (map phaseTold (repliesOf fresh (rowsIn (stepsFrom (now (s .entry)) from)))) ⌝ }
+    ensures reasons { λ _. ⌜ now (reasons .exit) ≡ sets (now (reasons .entry)) 0 (map reasonTold (repliesOf fresh (rowsIn (stepsFrom (now (s .entry)) from)))) ⌝ }
 {
     let mut kinds = [0u8; MOST_STEPS];
     let mut doors = [0u16; MOST_STEPS];

@@ -10,7 +10,7 @@ ghost use Rattle.record.specs.SoundTest.{soundB};
 ghost use Rattle.record.specs.Run.{lastOf};
 ghost use Rattle.grammar.specs.Sizes.{limit};
 ghost use Rattle.run_text.specs.Steps.{headingOf, stepsFrom, rowsIn, mostSteps};
-ghost use Rattle.run_text.specs.Printed.{answerRows, runText, aloneText, ranText, stepsText, panelText};
+ghost use Rattle.run_text.specs.Printed.{answerRows, repliesFrom, runText, aloneText, ranText, stepsText, panelText};
 ghost use Rattle.run_text.specs.Printed.{placesText, recordText, lastRecord, whereText, printedOf, written};
 use crate::print::put_bytes;
 use crate::print::put_four;
@@ -52,9 +52,9 @@ fn put_answers<'a>(
 ) -> usize
     requires { ⌜ at < 2 ^ 50 ⌝ }
     requires { ⌜ (length (now answers) ≤ mostSteps) × (length (now phases) ≡ length (now answers)) × (length (now reasons) ≡ length (now answers)) ⌝ }
-    ensures place { λ r. ⌜ r ≡ at + length (answerRows 1 (now (answers .entry)) (now (phases .entry)) (now (reasons .entry))) ⌝ }
+    ensures place { λ r. ⌜ r ≡ at + length (answerRows 1 (repliesFrom (now (answers .entry)) (now (phases .entry)) (now (reasons .entry)))) ⌝ }
     ensures near { λ r. ⌜ r ≤ at + 25 * length (now (answers .entry)) ⌝ }
-    ensures out { λ _. ⌜ now (out .exit) ≡ sets (now (out .entry)) at (answerRows 1 (now (answers .entry)) (now (phases .entry)) (now (reasons .entry))) ⌝ }
+    ensures out { λ _. ⌜ now (out .exit) ≡ sets (now (out .entry)) at (answerRows 1 (repliesFrom (now (answers .entry)) (now (phases .entry)) (now (reasons .entry)))) ⌝ }
 {
     let mut next = at;
     let mut i = 0;
@@ -77,8 +77,8 @@ fn put_run<'a>(
     out: &'a mut [u8],
 ) -> usize
     requires { ⌜ (length (now answers) ≤ mostSteps) × (length (now phases) ≡ length (now answers)) × (length (now reasons) ≡ length (now answers)) ⌝ }
-    ensures place { λ r. ⌜ r ≡ length (runText (now (answers .entry)) (now (phases .entry)) (now (reasons .entry)) whole) ⌝ }
-    ensures out { λ _. ⌜ now (out .exit) ≡ sets (now (out .entry)) 0 (runText (now (answers .entry)) (now (phases .entry)) (now (reasons .entry)) whole) ⌝ }
+    ensures place { λ r. ⌜ r ≡ length (runText (repliesFrom (now (answers .entry)) (now (phases .entry)) (now (reasons .entry))) whole) ⌝ }
+    ensures out { λ _. ⌜ now (out .exit) ≡ sets (now (out .entry)) 0 (runText (repliesFrom (now (answers .entry)) (now (phases .entry)) (now (reasons .entry))) whole) ⌝ }
 {
     let rows = put_bytes(b"row,answer,phase,reason\r\n", out, 0);
     let end = put_answers(answers, phases, reasons, out, rows);
@@ -97,8 +97,8 @@ fn print_run<'a>(
     out: &'a mut [u8],
 ) -> Printed
     requires { ⌜ (length (now answers) ≤ mostSteps) × (length (now phases) ≡ length (now answers)) × (length (now reasons) ≡ length (now answers)) ⌝ }
-    ensures printed { λ r. ⌜ r ≡ printedOf (runText (now (answers .entry)) (now (phases .entry)) (now (reasons .entry)) whole) (now (out .entry)) ⌝ }
-    ensures out { λ _. ⌜ now (out .exit) ≡ written (runText (now (answers .entry)) (now (phases .entry)) (now (reasons .entry)) whole) (now (out .entry)) ⌝ }
+    ensures printed { λ r. ⌜ r ≡ printedOf (runText (repliesFrom (now (answers .entry)) (now (phases .entry)) (now (reasons .entry))) whole) (now (out .entry)) ⌝ }
+    ensures out { λ _. ⌜ now (out .exit) ≡ written (runText (repliesFrom (now (answers .entry)) (now (phases .entry)) (now (reasons .entry))) whole) (now (out .entry)) ⌝ }
 {
     let length = put_run(answers, phases, reasons, whole, &mut out[..0]);
     if out.len() < length {

@@ -20,7 +20,7 @@ use Rattle.record.specs.Sound.{Sound}
 use Rattle.door.specs.Does.{effect}
 use Rattle.granting.specs.Reasons.{firstReason}
 use Rattle.record.specs.Steps.{act, exist, soundStep}
-use Rattle.record.specs.Run.{rowOf, rowsOf, lastOf, toldOf, answerTold, phaseTold, reasonTold}
+use Rattle.record.specs.Run.{Reply, replyBy, rowOf, rowsOf, lastOf, repliesOf}
 use Rattle.record.proofs.Laws.{sound-steps, sound-stays, shaped-stays}
 use Rattle.grammar.specs.Cut.{bareMove, shutMove, moveOf, endOf, fieldFrom, pushed, rowFrom, cutRow}
 use Rattle.grammar.specs.Rows.{readRows, rowsFrom}
@@ -53,19 +53,19 @@ sound-last (row ∷ rows) r sh s =
     sound-last rows _ (shaped-stays r (row .kind) (row .at) (row .person) sh) (sound-stays r (row .kind) (row .at) (row .person) sh s)
     ∙ ap (λ (x : Step). soundLast (x .next) rows) (sound-steps r (row .kind) (row .at) (row .person) sh s)
 
-soundTold : (Step → ℕ) → Record → List StepRow → List ℕ
-soundTold tell r [] = []
-soundTold tell r (row ∷ rows) =
+soundReplies : Record → List StepRow → List Reply
+soundReplies r [] = []
+soundReplies r (row ∷ rows) =
     let s = soundStep r (row .kind) (row .at) (row .person) in
-    tell s ∷ soundTold tell (s .next) rows
+    replyBy s ∷ soundReplies (s .next) rows
 
-sound-told : (tell : Step → ℕ) (rows : List StepRow) (r : Record) → Shaped r → Sound r → toldOf tell r rows ≡ soundTold tell r rows
-unfolding toldOf soundTold
-sound-told tell [] r sh s = refl
-sound-told tell (row ∷ rows) r sh s =
-    ap (λ (l : List ℕ). tell (rowOf r row) ∷ l)
-    (sound-told tell rows _ (shaped-stays r (row .kind) (row .at) (row .person) sh) (sound-stays r (row .kind) (row .at) (row .person) sh s))
-    ∙ ap (λ (x : Step). tell x ∷ soundTold tell (x .next) rows) (sound-steps r (row .kind) (row .at) (row .person) sh s)
+sound-replies : (rows : List StepRow) (r : Record) → Shaped r → Sound r → repliesOf r rows ≡ soundReplies r rows
+unfolding repliesOf soundReplies
+sound-replies [] r sh s = refl
+sound-replies (row ∷ rows) r sh s =
+    ap (λ (l : List Reply). replyBy (rowOf r row) ∷ l)
+    (sound-replies rows _ (shaped-stays r (row .kind) (row .at) (row .person) sh) (sound-stays r (row .kind) (row .at) (row .person) sh s))
+    ∙ ap (λ (x : Step). replyBy x ∷ soundReplies (x .next) rows) (sound-steps r (row .kind) (row .at) (row .person) sh s)
 
 -- ---- what the sheets are read into
 
@@ -115,12 +115,11 @@ where-here s e = sym (where-is siteSheet s (sym (sites .0)) refl refl e)
 
 -- the text of a run, its steps computed
 soundRan : Steps → List ℕ
-soundRan x =
-    runText (soundTold answerTold site-of-01 (rowsIn x)) (soundTold phaseTold site-of-01 (rowsIn x)) (soundTold reasonTold site-of-01 (rowsIn x)) (x .whole)
+soundRan x = runText (soundReplies site-of-01 (rowsIn x)) (x .whole)
 
 sound-ran : (x : Steps) → ranText site-of-01 x ≡ soundRan x
 unfolding soundRan
-sound-ran x = rw (sound-told answerTold (rowsIn x) site-of-01 shaped sound, sound-told phaseTold (rowsIn x) site-of-01 shaped sound, sound-told reasonTold (rowsIn x) site-of-01 shaped sound)
+sound-ran x = rw (sound-replies (rowsIn x) site-of-01 shaped sound)
 
 panel-ran : (s : List ℕ) {x : Steps} → headingOf s ≡ Rows 18 → stepsFrom s 18 ≡ x → panelText siteSheet s ≡ soundRan x
 panel-ran s e f = panel-here s e ∙ ap (ranText site-of-01) f ∙ sound-ran _
@@ -128,7 +127,7 @@ panel-ran s e f = panel-here s e ∙ ap (ranText site-of-01) f ∙ sound-ran _
 texts : (soundRan stepsOf01 ≡ panelOf01)
     × (soundRan (record { kinds = 0 ∷ []; doors = 0 ∷ []; persons = 0 ∷ []; whole = false }) ≡ panelTop (four 1 0 1 0 (four 2 2 0 0 [])))
     × (recordText (soundLast site-of-01 (rowsIn stepsOf01)) ≡ whereTop (two 0 1 (two 1 0 [])))
-unfolding soundRan soundTold soundLast stepsOf01 soundStep firstReason effect act exist allows hasGrant grantOf leastBelow orAt grantsTo grants mayBe andAlso orElse zeros rowsOf kindOf runText answerRows placeRows placesText rowOfNumbers cellText decimal digits
+unfolding soundRan soundReplies soundLast stepsOf01 soundStep firstReason effect act exist allows hasGrant grantOf leastBelow orAt grantsTo grants mayBe andAlso orElse zeros rowsOf kindOf runText answerRows placeRows placesText rowOfNumbers cellText decimal digits
 texts = (refl, refl, refl)
 
 alone : (aloneText 2 ≡ panelTop (four 0 2 0 0 [])) × (aloneText 5 ≡ panelTop (four 0 5 0 0 [])) × (placesText [] ≡ whereTop []) × (recordText site-of-01 ≡ whereTop (two 0 0 (two 1 0 [])))

@@ -11,7 +11,8 @@ use lib.ListN.{length, getD, drop, drop-of-length-le}
 use lib.Seq.{sets, drop-cons}
 use Rattle.run_text.specs.declared.text.Printed.the-variants.{Text, TooShort}
 use Rattle.run_text.specs.Text.{rowOfNumbers}
-use Rattle.run_text.specs.Printed.{panelHeader, panelRow, answerRows, runText, placeRows, fitsIn, printedOf, written}
+use Rattle.record.specs.Run.{Reply}
+use Rattle.run_text.specs.Printed.{panelHeader, panelRow, answerRows, repliesFrom, runText, placeRows, fitsIn, printedOf, written}
 use Rattle.run_text.proofs.Writing.{Wrote, Pending, pending-start, pending-more, pending-end}
 
 -- nothing can be written into no bytes
@@ -52,15 +53,15 @@ module _ (text front out : List ℕ) {measured : ℕ} (none : front ≡ sets [] 
 pub record Answering (answers phases reasons before : List ℕ) (at : ℕ) (out : List ℕ) (next i : ℕ) : Type 0 where
   pub low : i ≤ length answers
   pub near : next ≤ at + 25 * i
-  pub pending : Pending before at (answerRows 1 answers phases reasons) out next (answerRows (i + 1) (drop i answers) (drop i phases) (drop i reasons))
+  pub pending : Pending before at (answerRows 1 (repliesFrom answers phases reasons)) out next (answerRows (i + 1) (repliesFrom (drop i answers) (drop i phases) (drop i reasons)))
 
 pub answer-start : {answers phases reasons before : List ℕ} {at : ℕ} → Answering answers phases reasons before at before at 0
 answer-start = record { low = omega arith; near = omega arith; pending = pending-start }
 
 answer-row : (answers phases reasons : List ℕ) (i : ℕ) → length phases ≡ length answers → length reasons ≡ length answers → i < length answers
-    → answerRows (i + 1) (drop i answers) (drop i phases) (drop i reasons)
-    ≡ panelRow (i + 1) (getD answers i 0) (getD phases i 0) (getD reasons i 0) ++ answerRows (i + 1 + 1) (drop (i + 1) answers) (drop (i + 1) phases) (drop (i + 1) reasons)
-unfolding answerRows
+    → answerRows (i + 1) (repliesFrom (drop i answers) (drop i phases) (drop i reasons))
+    ≡ panelRow (i + 1) (getD answers i 0) (getD phases i 0) (getD reasons i 0) ++ answerRows (i + 1 + 1) (repliesFrom (drop (i + 1) answers) (drop (i + 1) phases) (drop (i + 1) reasons))
+unfolding answerRows repliesFrom
 answer-row answers phases reasons i p r h =
     let hp : i < length phases = omega arith in
     let hr : i < length reasons = omega arith in
@@ -75,8 +76,8 @@ answer-more {answers} {phases} {reasons} {i = i} a p r h w few =
     record { low = omega arith; near = omega arith; pending = pending-more (a .pending) (answer-row answers phases reasons i p r h) w }
 
 pub answer-end : {answers phases reasons before : List ℕ} {at : ℕ} {out : List ℕ} {next i : ℕ} → Answering answers phases reasons before at out next i
-    → length answers ≤ i → Wrote before at (answerRows 1 answers phases reasons) out next
-unfolding answerRows
+    → length answers ≤ i → Wrote before at (answerRows 1 (repliesFrom answers phases reasons)) out next
+unfolding answerRows repliesFrom
 answer-end {answers} a h = pending-end (a .pending) (rw (drop-of-length-le answers h))
 
 -- the loop over the places has come to person i
@@ -106,11 +107,20 @@ unfolding placeRows
 place-end {places} p h = pending-end (p .pending) (rw (drop-of-length-le places h))
 
 -- the parts of the text of a run
-pub run-whole : (answers phases reasons : List ℕ) {whole : Bool} → whole ≡ true → panelHeader ++ answerRows 1 answers phases reasons ≡ runText answers phases reasons whole
+pub run-whole : (replies : List Reply) {whole : Bool} → whole ≡ true → panelHeader ++ answerRows 1 replies ≡ runText replies whole
 unfolding runText
-run-whole answers phases reasons e = rw (e, append-nil (answerRows 1 answers phases reasons))
+run-whole replies e = rw (e, append-nil (answerRows 1 replies))
 
-pub run-broken : (answers phases reasons : List ℕ) {whole : Bool} → whole ≡ false
-    → panelHeader ++ (answerRows 1 answers phases reasons ++ panelRow (length answers + 1) 2 0 0) ≡ runText answers phases reasons whole
+pub run-broken : (replies : List Reply) {whole : Bool} {count : ℕ} → count ≡ length replies → whole ≡ false
+    → panelHeader ++ (answerRows 1 replies ++ panelRow (count + 1) 2 0 0) ≡ runText replies whole
 unfolding runText
-run-broken answers phases reasons e = rw e
+run-broken replies n e = rw (e, n)
+
+-- three lists of one length are as many replies
+pub from-length : (answers phases reasons : List ℕ) → length phases ≡ length answers → length reasons ≡ length answers
+    → length answers ≡ length (repliesFrom answers phases reasons)
+unfolding repliesFrom
+from-length [] phases reasons p r = refl
+from-length (a ∷ answers) [] reasons p r = absurd (omega arith)
+from-length (a ∷ answers) (x ∷ phases) [] p r = absurd (omega arith)
+from-length (a ∷ answers) (x ∷ phases) (y ∷ reasons) p r = ap suc (from-length answers phases reasons (omega arith) (omega arith))

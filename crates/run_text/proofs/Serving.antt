@@ -3,24 +3,24 @@
 use Prim.Native.Nat.{ℕ, suc, _≤_}
 use mathlib.Core.Path.{_≡_, refl, sym, ap, _∙_}
 use mathlib.Core.Bool.{Bool, true}
-use mathlib.Core.List.{List, [], _∷_}
+use mathlib.Core.List.{List, [], _∷_, map}
 use native.Mathlib.Omega.{arith}
-use lib.ListN.{length, take}
+use lib.ListN.{length, take, length-map}
 use lib.Seq.{sets, sets-eq, take-append-seam}
 use Rattle.tables.specs.Tables.{andAlso}
 use Rattle.tables.proofs.Laws.{tell-and, tell-le}
 use Rattle.grammar.specs.Rows.{Rows, no-more, broken, row}
 use Rattle.record.specs.declared.record.Record.{Record}
 use Rattle.record.specs.declared.series.Ran.{Ran}
-use Rattle.record.specs.declared.steps.Step.{Step}
 use Rattle.phases.specs.declared.answer.Answer.the-variants.{Done}
 use Rattle.record.specs.SoundTest.{soundB}
-use Rattle.record.specs.Run.{rowsOf, lastOf, toldOf, roomFor, roomIn, ranOf, tellingOf, runOf}
+use Rattle.record.specs.Run.{Reply, rowsOf, lastOf, repliesOf, answerTold, phaseTold, reasonTold, roomFor, roomIn, ranOf, tellingOf, runOf}
 use Rattle.phases.specs.Kinds.{StepRow}
 use Rattle.run_text.specs.declared.steps.StepsLine.{StepsLine}
 use Rattle.run_text.specs.declared.steps.StepsLine.the-variants as line
 use Rattle.run_text.specs.declared.steps.Decoded.{Decoded}
 use Rattle.run_text.specs.Steps.{Steps, stepsLineAt, before, stepsIn, rowsIn, decodedOf}
+use Rattle.run_text.specs.Printed.{repliesFrom}
 
 -- what was written at the front of a list is its front
 pub front : (list xs : List ℕ) → length xs ≤ length list → take (length xs) (sets list 0 xs) ≡ xs
@@ -88,16 +88,16 @@ module _ (r : Record) (steps : Steps) (answers phases reasons : List ℕ) (sound
       → ran ≡ runOf r (take count kinds) (take count doors) (take count persons) answers phases reasons → ran .next ≡ lastOf r (rowsIn steps)
   ran-steps d e = ran-last r _ _ sound room-is (rw (d .kinds-are, d .doors-are, d .persons-are) at e)
 
-  pub told-steps : {count : ℕ} {kinds doors persons after : List ℕ} (tell : Step → ℕ) (list : List ℕ) → Decodes steps count kinds doors persons
-      → after ≡ tellingOf r (roomIn (take count kinds) (take count doors) (take count persons) answers phases reasons) (toldOf tell r (rowsOf (take count kinds) (take count doors) (take count persons))) list
-      → after ≡ sets list 0 (toldOf tell r (rowsIn steps))
+  pub told-steps : {count : ℕ} {kinds doors persons after : List ℕ} (tell : Reply → ℕ) (list : List ℕ) → Decodes steps count kinds doors persons
+      → after ≡ tellingOf r (roomIn (take count kinds) (take count doors) (take count persons) answers phases reasons) (map tell (repliesOf r (rowsOf (take count kinds) (take count doors) (take count persons)))) list
+      → after ≡ sets list 0 (map tell (repliesOf r (rowsIn steps)))
   told-steps tell list d e = ran-told r _ _ _ sound room-is (rw (d .kinds-are, d .doors-are, d .persons-are) at e)
 
--- as much is told as there are steps
-pub told-length : (tell : Step → ℕ) (r : Record) (rows : List StepRow) → length (toldOf tell r rows) ≡ length rows
-unfolding toldOf
-told-length tell r [] = refl
-told-length tell r (first ∷ rows) = ap suc (told-length tell _ rows)
+-- there are as many replies as steps
+pub replies-length : (r : Record) (rows : List StepRow) → length (repliesOf r rows) ≡ length rows
+unfolding repliesOf
+replies-length r [] = refl
+replies-length r (first ∷ rows) = ap suc (replies-length _ rows)
 
 pub rows-length : (kinds doors persons : List ℕ) → length doors ≡ length kinds → length persons ≡ length kinds → length (rowsOf kinds doors persons) ≡ length kinds
 unfolding rowsOf
@@ -106,5 +106,14 @@ rows-length (k ∷ kinds) [] persons d p = absurd (omega arith)
 rows-length (k ∷ kinds) (x ∷ doors) [] d p = absurd (omega arith)
 rows-length (k ∷ kinds) (x ∷ doors) (y ∷ persons) d p = ap suc (rows-length kinds doors persons (omega arith) (omega arith))
 
-pub steps-told : (tell : Step → ℕ) (r : Record) {steps : Steps} → Even steps → length (toldOf tell r (rowsIn steps)) ≡ length (steps .kinds)
-steps-told tell r {steps} even = told-length tell r (rowsIn steps) ∙ rows-length _ _ _ (even .doors-too) (even .persons-too)
+pub steps-replied : (r : Record) {steps : Steps} → Even steps → length (repliesOf r (rowsIn steps)) ≡ length (steps .kinds)
+steps-replied r {steps} even = replies-length r (rowsIn steps) ∙ rows-length _ _ _ (even .doors-too) (even .persons-too)
+
+pub steps-told : (tell : Reply → ℕ) (r : Record) {steps : Steps} → Even steps → length (map tell (repliesOf r (rowsIn steps))) ≡ length (steps .kinds)
+steps-told tell r {steps} even = length-map (repliesOf r (rowsIn steps)) tell ∙ steps-replied r even
+
+-- the three lists of a list's parts are that list
+pub parts-back : (replies : List Reply) → repliesFrom (map answerTold replies) (map phaseTold replies) (map reasonTold replies) ≡ replies
+unfolding repliesFrom
+parts-back [] = refl
+parts-back (reply ∷ replies) = ap (λ (l : List Reply). reply ∷ l) (parts-back replies)

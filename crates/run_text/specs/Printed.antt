@@ -6,7 +6,7 @@ use lib.ListN.{length, take}
 use lib.Seq.{sets}
 use lib.Dec.{leb, eqb}
 use Rattle.record.specs.declared.record.Record.{Record}
-use Rattle.record.specs.Run.{lastOf, toldOf, answerTold, phaseTold, reasonTold}
+use Rattle.record.specs.Run.{Reply, lastOf, repliesOf}
 use Rattle.site_sheet.specs.declared.SiteRead.{SiteRead}
 use Rattle.site_sheet.specs.Site.{siteOf, verdictNo}
 use Rattle.run_text.specs.declared.steps.Heading.{Heading}
@@ -30,20 +30,26 @@ abbrev pub panelRow : ℕ → ℕ → ℕ → ℕ → List ℕ
 panelRow n answer phase reason = rowOfNumbers n (answer ∷ phase ∷ reason ∷ [])
 
 -- "a row for each data row", from row n on: its number, its answer, its phase and its reason
-unfoldable pub answerRows : ℕ → List ℕ → List ℕ → List ℕ → List ℕ
-answerRows n [] phases reasons = []
-answerRows n (a ∷ answers) [] reasons = []
-answerRows n (a ∷ answers) (p ∷ phases) [] = []
-answerRows n (a ∷ answers) (p ∷ phases) (r ∷ reasons) = panelRow n a p r ++ answerRows (n + 1) answers phases reasons
+unfoldable pub answerRows : ℕ → List Reply → List ℕ
+answerRows n [] = []
+answerRows n (reply ∷ replies) = panelRow n (reply .answer) (reply .phase) (reply .reason) ++ answerRows (n + 1) replies
+
+-- three lent lists are a list of replies: each one's answer, phase and reason
+unfoldable pub repliesFrom : List ℕ → List ℕ → List ℕ → List Reply
+repliesFrom [] phases reasons = []
+repliesFrom (a ∷ answers) [] reasons = []
+repliesFrom (a ∷ answers) (p ∷ phases) [] = []
+repliesFrom (a ∷ answers) (p ∷ phases) (why ∷ reasons) =
+    record { answer = a; phase = p; reason = why } ∷ repliesFrom answers phases reasons
 
 -- "A row of form 2 is printed `row,2,0,0` and ends the run."
 abbrev pub lastRow : Bool → ℕ → List ℕ
 lastRow true n = []
 lastRow false n = panelRow n 2 0 0
 
--- the text of a run: its answers, and the row of bad form that ended it, if one did
-unfoldable pub runText : List ℕ → List ℕ → List ℕ → Bool → List ℕ
-runText answers phases reasons whole = panelHeader ++ (answerRows 1 answers phases reasons ++ lastRow whole (length answers + 1))
+-- the text of a run: its replies, and the row of bad form that ended it, if one did
+unfoldable pub runText : List Reply → Bool → List ℕ
+runText replies whole = panelHeader ++ (answerRows 1 replies ++ lastRow whole (length replies + 1))
 
 -- "each stands alone after the header"
 unfoldable pub aloneText : ℕ → List ℕ
@@ -55,8 +61,7 @@ servedOf r steps = record { next = lastOf r (rowsIn steps); count = length (step
 
 -- the steps of a sheet, run from a record and printed
 abbrev pub ranText : Record → Steps → List ℕ
-ranText r steps =
-    runText (toldOf answerTold r (rowsIn steps)) (toldOf phaseTold r (rowsIn steps)) (toldOf reasonTold r (rowsIn steps)) (steps .whole)
+ranText r steps = runText (repliesOf r (rowsIn steps)) (steps .whole)
 
 -- "A wrong header is `0,2,0,0`, a long steps sheet `0,1,0,0`"
 abbrev pub stepsText : Record → List ℕ → Heading → List ℕ

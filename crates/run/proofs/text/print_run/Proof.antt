@@ -1,5 +1,5 @@
 -- `print_run` meets its contract: the text is measured, and written where it fits. Assumes nothing.
-use Rattle.run_text.specs.Printed.{runText}
+use Rattle.run_text.specs.Printed.{repliesFrom, runText}
 use Rattle.run_text.proofs.Fitting.{too-short, fitted}
 use borrow.Author.Needs.{needs}
 use Rattle.run.proofs.text.print_run.Statement.{statement}
@@ -18,7 +18,7 @@ same-length : tie.Need-same-length
 same-length c = search needs
 
 returns : tie.Need-returns
-returns c = too-short (runText (c .before .before .before .before .before .before .before .before .before .args .answers .now) (c .before .before .before .before .before .before .before .before .before .args .phases .now) (c .before .before .before .before .before .before .before .before .before .args .reasons .now) (c .before .before .before .before .before .before .before .before .before .args .whole)) _ _ (c .before .before .before .put-run .ensures .1) (c .before .before .before .put-run .ensures .0) (c .if1 .taken)
+returns c = too-short (runText (repliesFrom (c .before .before .before .before .before .before .before .before .before .args .answers .now) (c .before .before .before .before .before .before .before .before .before .args .phases .now) (c .before .before .before .before .before .before .before .before .before .args .reasons .now)) (c .before .before .before .before .before .before .before .before .before .args .whole)) _ _ (c .before .before .before .put-run .ensures .1) (c .before .before .before .put-run .ensures .0) (c .if1 .taken)
 
 put-run-requires-2 : tie.Need-put-run-requires-2
 put-run-requires-2 c κs = search needs
@@ -27,7 +27,7 @@ same-length-2 : tie.Need-same-length-2
 same-length-2 c = search needs
 
 returns-2 : tie.Need-returns-2
-returns-2 c = fitted (runText (c .before .before .before .before .before .before .before .before .before .before .before .before .before .args .answers .now) (c .before .before .before .before .before .before .before .before .before .before .before .before .before .args .phases .now) (c .before .before .before .before .before .before .before .before .before .before .before .before .before .args .reasons .now) (c .before .before .before .before .before .before .before .before .before .before .before .before .before .args .whole)) _ _ (c .before .before .before .before .before .before .before .put-run .ensures .1) (c .before .before .before .before .before .before .before .put-run .ensures .0) (c .before .before .before .before .if1 .left) (c .before .before .put-run2 .ensures .0) (c .before .before .put-run2 .ensures .1)
+returns-2 c = fitted (runText (repliesFrom (c .before .before .before .before .before .before .before .before .before .before .before .before .before .args .answers .now) (c .before .before .before .before .before .before .before .before .before .before .before .before .before .args .phases .now) (c .before .before .before .before .before .before .before .before .before .before .before .before .before .args .reasons .now)) (c .before .before .before .before .before .before .before .before .before .before .before .before .before .args .whole)) _ _ (c .before .before .before .before .before .before .before .put-run .ensures .1) (c .before .before .before .before .before .before .before .put-run .ensures .0) (c .before .before .before .before .if1 .left) (c .before .before .put-run2 .ensures .0) (c .before .before .put-run2 .ensures .1)
 
 pub print-run-spec : {M : Type 1} → statement M
 print-run-spec =

@@ -1,13 +1,14 @@
 -- `print_steps` meets its contract: the steps are run, and their answers printed. Assumes nothing.
 use mathlib.Core.Path.{_≡_, sym, ap, _∙_}
+use mathlib.Core.List.{map}
 use native.Mathlib.Omega.{arith}
 use lib.ListN.{length, take}
 use lib.Seq.{length-take-le}
 use Rattle.grammar.specs.Rows.{rowsFrom}
-use Rattle.record.specs.Run.{toldOf, answerTold, phaseTold, reasonTold}
+use Rattle.record.specs.Run.{repliesOf, answerTold, phaseTold, reasonTold}
 use Rattle.run_text.specs.declared.serve.Served.{Served}
 use Rattle.run_text.specs.Steps.{stepsFrom, rowsIn}
-use Rattle.run_text.proofs.Serving.{steps-even, steps-told, front-of}
+use Rattle.run_text.proofs.Serving.{steps-even, steps-told, front-of, parts-back}
 use borrow.Author.Needs.{needs}
 use Rattle.run.proofs.text.print_steps.Statement.{statement}
 use Rattle.run.proofs.text.print_steps.Tie as tie
@@ -75,10 +76,10 @@ returns c =
     let few = s .ensures .1 .0 in
     let count : s .result .count ≡ length (steps .kinds) = ap (λ (x : Served). x .count) (s .ensures .0) in
     let whole : s .result .whole ≡ steps .whole = ap (λ (x : Served). x .whole) (s .ensures .0) in
-    let answers : take (s .result .count) (s .last .1 .1 .1 .0) ≡ toldOf answerTold (a .fresh) (rowsIn steps) = front-of _ _ (count ∙ sym (steps-told answerTold (a .fresh) even)) few (s .ensures .1 .1 .0) in
-    let phases : take (s .result .count) (s .last .1 .1 .1 .1 .0) ≡ toldOf phaseTold (a .fresh) (rowsIn steps) = front-of _ _ (count ∙ sym (steps-told phaseTold (a .fresh) even)) few (s .ensures .1 .1 .1 .0) in
-    let reasons : take (s .result .count) (s .last .1 .1 .1 .1 .1 .0) ≡ toldOf reasonTold (a .fresh) (rowsIn steps) = front-of _ _ (count ∙ sym (steps-told reasonTold (a .fresh) even)) few (s .ensures .1 .1 .1 .1) in
-    rw (answers, phases, reasons, whole) at (c .before .before .print-run .ensures)
+    let answers : take (s .result .count) (s .last .1 .1 .1 .0) ≡ map answerTold (repliesOf (a .fresh) (rowsIn steps)) = front-of _ _ (count ∙ sym (steps-told answerTold (a .fresh) even)) few (s .ensures .1 .1 .0) in
+    let phases : take (s .result .count) (s .last .1 .1 .1 .1 .0) ≡ map phaseTold (repliesOf (a .fresh) (rowsIn steps)) = front-of _ _ (count ∙ sym (steps-told phaseTold (a .fresh) even)) few (s .ensures .1 .1 .1 .0) in
+    let reasons : take (s .result .count) (s .last .1 .1 .1 .1 .1 .0) ≡ map reasonTold (repliesOf (a .fresh) (rowsIn steps)) = front-of _ _ (count ∙ sym (steps-told reasonTold (a .fresh) even)) few (s .ensures .1 .1 .1 .1) in
+    rw (answers, phases, reasons, whole, parts-back (repliesOf (a .fresh) (rowsIn steps))) at (c .before .before .print-run .ensures)
 
 pub print-steps-spec : {M : Type 1} → statement M
 print-steps-spec =

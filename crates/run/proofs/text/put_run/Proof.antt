@@ -3,9 +3,9 @@ use Prim.Native.Nat.{_+_}
 use mathlib.Core.Path.{_∙_}
 use native.Mathlib.Nat.{zero-add}
 use lib.ListN.{length}
-use Rattle.run_text.specs.Printed.{panelHeader, panelRow, answerRows}
+use Rattle.run_text.specs.Printed.{panelHeader, panelRow, answerRows, repliesFrom}
 use Rattle.run_text.proofs.Writing.{wrote, then, said}
-use Rattle.run_text.proofs.Fitting.{run-whole, run-broken}
+use Rattle.run_text.proofs.Fitting.{run-whole, run-broken, from-length}
 use borrow.Author.Needs.{needs}
 use Rattle.run.proofs.text.put_run.Statement.{statement}
 use Rattle.run.proofs.text.put_run.Tie as tie
@@ -26,8 +26,8 @@ returns : tie.Need-returns
 returns c =
     let a = c .before .before .before .before .before .before .before .before .before .before .before .before .before .before .args in
     let h = wrote {before = a .out .now} panelHeader (c .before .before .before .before .before .before .before .put-bytes .ensures .0) (c .before .before .before .before .before .before .before .put-bytes .ensures .1) in
-    let rows = wrote (answerRows 1 (a .answers .now) (a .phases .now) (a .reasons .now)) (c .before .before .before .put-answers .ensures .0) (c .before .before .before .put-answers .ensures .1 .1) in
-    let w = said (run-whole (a .answers .now) (a .phases .now) (a .reasons .now) (c .if1 .taken)) (then h rows) in
+    let rows = wrote (answerRows 1 (repliesFrom (a .answers .now) (a .phases .now) (a .reasons .now))) (c .before .before .before .put-answers .ensures .0) (c .before .before .before .put-answers .ensures .1 .1) in
+    let w = said (run-whole (repliesFrom (a .answers .now) (a .phases .now) (a .reasons .now)) (c .if1 .taken)) (then h rows) in
     (w .place ∙ zero-add _, w .out)
 
 add-put-four : tie.Need-add-put-four
@@ -46,9 +46,10 @@ returns-2 : tie.Need-returns-2
 returns-2 c =
     let a = c .before .before .before .before .before .before .before .before .before .before .before .before .before .before .before .before .before .before .args in
     let h = wrote {before = a .out .now} panelHeader (c .before .before .before .before .before .before .before .before .before .before .before .put-bytes .ensures .0) (c .before .before .before .before .before .before .before .before .before .before .before .put-bytes .ensures .1) in
-    let rows = wrote (answerRows 1 (a .answers .now) (a .phases .now) (a .reasons .now)) (c .before .before .before .before .before .before .before .put-answers .ensures .0) (c .before .before .before .before .before .before .before .put-answers .ensures .1 .1) in
+    let rows = wrote (answerRows 1 (repliesFrom (a .answers .now) (a .phases .now) (a .reasons .now))) (c .before .before .before .before .before .before .before .put-answers .ensures .0) (c .before .before .before .before .before .before .before .put-answers .ensures .1 .1) in
+    let p = c .before .before .before .before .before .before .before .before .before .before .before .before .before .before .before .before .before .before .pre in
     let bad = wrote (panelRow (length (a .answers .now) + 1) 2 0 0) (c .before .before .put-four .ensures .0) (c .before .before .put-four .ensures .1) in
-    let w = said (run-broken (a .answers .now) (a .phases .now) (a .reasons .now) (c .before .before .before .before .if1 .left)) (then h (then rows bad)) in
+    let w = said (run-broken (repliesFrom (a .answers .now) (a .phases .now) (a .reasons .now)) (from-length (a .answers .now) (a .phases .now) (a .reasons .now) (p .1) (p .2)) (c .before .before .before .before .if1 .left)) (then h (then rows bad)) in
     (w .place ∙ zero-add _, w .out)
 
 pub put-run-spec : {M : Type 1} → statement M

@@ -1,0 +1,6 @@
+-- What is proved of the events of a run. `Theorems` has the theorems by name; `Doors` follows one step at its door, `Steps` one step of
+-- a record, and `Spells` a spell from its taken card on.
+pub mod Doors
+pub mod Steps
+pub mod Spells
+pub mod Theorems
