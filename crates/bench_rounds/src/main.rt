@@ -1,9 +1,9 @@
 // `rounds`: does what `panel` does, as many times over as its argument says (once without one), and writes the last text.
 // bench/run times it.
 use libc::STDOUT_FILENO;
-use run::text::MOST_PANEL_TEXT;
-use run::text::panel_text;
-use run_text::text::Printed;
+use run::texts::MOST_PANEL_TEXT;
+use run::texts::panel_text;
+use text::printed::Printed;
 use sheet_files::ROOM;
 use sheet_files::number_asked;
 use sheet_files::read_sheet;

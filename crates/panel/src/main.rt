@@ -1,9 +1,9 @@
 // `panel`: reads site.csv and steps.csv of the folder that it is run in and writes what the panel answers to each row. The text
 // is proved in the crate `run`; here is only reading and writing.
 use libc::STDOUT_FILENO;
-use run::text::MOST_PANEL_TEXT;
-use run::text::panel_text;
-use run_text::text::Printed;
+use run::texts::MOST_PANEL_TEXT;
+use run::texts::panel_text;
+use text::printed::Printed;
 use sheet_files::ROOM;
 use sheet_files::read_sheet;
 

@@ -1,4 +1,4 @@
--- A text is measured by writing it into no bytes, and written where it fits: `measured` is the law of every function that prints.
+-- A text is measured by writing it into no bytes, and written where it fits: `prints` closes every function that prints.
 -- Assumes nothing.
 use Prim.Native.Nat.{ℕ, _+_, _≤_, _<_}
 use mathlib.Core.Path.{_≡_, refl, sym, ap, subst, _∙_}
@@ -62,3 +62,5 @@ module _ {text front : List ℕ} {size : ℕ} (w : Wrote [] 0 text front size) w
 -- the same text, said otherwise
 pub text-is : (text other out : List ℕ) {p : Printed} {after : List ℕ} → text ≡ other → Prints text out p after → Prints other out p after
 text-is text other out {p} {after} e h = subst (λ (t : List ℕ). Prints t out p after) e h
+
+pub ruleset prints = (needs, too-short, fitted)

@@ -1,9 +1,9 @@
 // `where`: reads site.csv and steps.csv of the folder that it is run in and writes where everyone is after the steps. The text
 // is proved in the crate `run`; here is only reading and writing.
 use libc::STDOUT_FILENO;
-use run::text::MOST_WHERE_TEXT;
-use run::text::where_text;
-use run_text::text::Printed;
+use run::texts::MOST_WHERE_TEXT;
+use run::texts::where_text;
+use text::printed::Printed;
 use sheet_files::ROOM;
 use sheet_files::read_sheet;
 
