@@ -3,10 +3,10 @@
 use libc::STDOUT_FILENO;
 use run::texts::MOST_PANEL_TEXT;
 use run::texts::panel_text;
-use text::printed::Printed;
 use sheet_files::ROOM;
 use sheet_files::number_asked;
 use sheet_files::read_sheet;
+use text::printed::Printed;
 
 // The same text again and again into the same list; the last one's length, 0 for no round.
 fn text_in_rounds<'a>(rounds: usize, site: &'a [u8], steps: &'a [u8], out: &'a mut [u8]) -> usize {

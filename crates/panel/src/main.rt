@@ -3,9 +3,9 @@
 use libc::STDOUT_FILENO;
 use run::texts::MOST_PANEL_TEXT;
 use run::texts::panel_text;
-use text::printed::Printed;
 use sheet_files::ROOM;
 use sheet_files::read_sheet;
+use text::printed::Printed;
 
 fn main() {
     let mut site = [0u8; ROOM];

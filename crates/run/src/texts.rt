@@ -10,11 +10,11 @@ ghost use Rattle.record.specs.Run.{lastOf};
 ghost use Rattle.grammar.specs.Sizes.{limit};
 ghost use Rattle.text.specs.Wrote.{Wrote};
 ghost use Rattle.text.specs.Printed.{Prints};
-ghost use Rattle.run_text.specs.Steps.{headingOf, stepsFrom, rowsIn, mostSteps};
+ghost use Rattle.run_text.specs.Steps.{headingOf, stepsFrom, rowsIn};
 ghost use Rattle.run_text.specs.Printed.{answerRows, runText, aloneText, ranText, stepsText, panelText};
-ghost use Rattle.run_text.specs.Printed.{placesText, recordText, lastRecord, whereText, mostPanelText, mostWhereText};
+ghost use Rattle.run_text.specs.Printed.{placesText, recordText, lastRecord, whereText};
+use crate::blank::blank_bytes;
 use crate::serve::serve;
-use crate::steps::MOST_STEPS;
 use crate::steps::heading_of;
 use record::record::Record;
 use run_text::steps::Heading;
@@ -27,12 +27,6 @@ use text::write::put_row;
 const TOO_LONG: u8 = 1;
 
 const BAD_FORM: u8 = 2;
-
-// Room for every text that `panel` prints, and for every one that `where` prints: `panel-fits` and `where-fits` of
-// crates/demands/specs/DemandOne.antt say so.
-pub const MOST_PANEL_TEXT: usize = 81920;
-
-pub const MOST_WHERE_TEXT: usize = 512;
 
 // A byte as a number of the text.
 fn wide(byte: u8) -> usize
@@ -125,9 +119,9 @@ fn print_steps<'a>(fresh: Record, s: &'a [u8], from: usize, out: &'a mut [u8]) -
     requires { ⌜ length (now s) ≤ limit ⌝ }
     ensures { λ r. ⌜ Prints (ranText fresh (stepsFrom (now (s .entry)) from)) (now (out .entry)) r (now (out .exit)) ⌝ }
 {
-    let mut answers = [0u8; MOST_STEPS];
-    let mut phases = [0u8; MOST_STEPS];
-    let mut reasons = [0u8; MOST_STEPS];
+    let mut answers = blank_bytes();
+    let mut phases = blank_bytes();
+    let mut reasons = blank_bytes();
     let served = serve(fresh, s, from, &mut answers, &mut phases, &mut reasons);
     let count = served.count;
     print_run(
@@ -205,9 +199,9 @@ fn record_after(fresh: Record, s: &[u8], from: usize) -> Record
     requires { ⌜ length (now s) ≤ limit ⌝ }
     ensures { λ r. ⌜ r ≡ lastOf fresh (rowsIn (stepsFrom (now (s .entry)) from)) ⌝ }
 {
-    let mut answers = [0u8; MOST_STEPS];
-    let mut phases = [0u8; MOST_STEPS];
-    let mut reasons = [0u8; MOST_STEPS];
+    let mut answers = blank_bytes();
+    let mut phases = blank_bytes();
+    let mut reasons = blank_bytes();
     let served = serve(fresh, s, from, &mut answers, &mut phases, &mut reasons);
     served.next
 }

@@ -1,4 +1,4 @@
--- A text is measured by writing it into no bytes, and written where it fits: `prints` closes every function that prints.
+-- A text is measured by writing it into no bytes, and written where it fits: `measured` is the law of every function that prints.
 -- Assumes nothing.
 use Prim.Native.Nat.{ℕ, _+_, _≤_, _<_}
 use mathlib.Core.Path.{_≡_, refl, sym, ap, subst, _∙_}
@@ -6,7 +6,6 @@ use mathlib.Core.Bool.{Bool, true, false, cond}
 use mathlib.Core.List.{List, [], _++_}
 use native.Mathlib.Omega.{arith}
 use borrow.Author.Tests.{le-leb, lt-leb}
-use borrow.Author.Needs.{needs}
 use lib.ListN.{length}
 use lib.Seq.{sets}
 use Rattle.text.specs.declared.printed.Printed.{Printed}
@@ -24,43 +23,35 @@ unfolding fitsIn
 long-list text out h = le-leb (length text) (length out) h
 
 -- what was told and what the list holds, by whether the text fits
-pub prints-short : {text out : List ℕ} → length out < length text → Prints text out TooShort out
+prints-short : {text out : List ℕ} → length out < length text → Prints text out TooShort out
 unfolding printedOf written
 prints-short {text} {out} h =
     let e = short-list text out h in
     record { answer = rw e; list = rw e }
 
-pub prints-long : {text out after : List ℕ} {end : ℕ} → length text ≤ length out → end ≡ length text → after ≡ sets out 0 text → Prints text out (Text end) after
+prints-long : {text out after : List ℕ} {end : ℕ} → length text ≤ length out → end ≡ length text → after ≡ sets out 0 text → Prints text out (Text end) after
 unfolding printedOf written
 prints-long {text} {out} h e a =
     let f = long-list text out h in
     record { answer = rw (f, e); list = rw f a }
 
--- the text was measured by writing it into no bytes of the list, `front`
-module _ {text front : List ℕ} {size : ℕ} (w : Wrote [] 0 text front size) where
-  untouched : (out : List ℕ) → front ++ out ≡ out
-  untouched out = ap (λ (f : List ℕ). f ++ out) (w .list ∙ sets-past [] 0 text (omega arith))
+-- a text that was measured: 13 and nothing written where the list is shorter, else it is written
+pub record Measured (text out whole : List ℕ) (size : ℕ) : Type 0 where
+  pub short : length whole < size → Prints text out TooShort whole
+  pub long : {after : List ℕ} {end : ℕ} → size ≤ length whole → Wrote whole 0 text after end → length whole < lastPlace → Prints text out (Text end) after
 
-  pub too-short : {out : List ℕ} → length (front ++ out) < size → Prints text out TooShort (front ++ out)
-  unfolding behind
-  too-short {out} h =
-      let e = untouched out in
-      let p : size ≡ behind 0 (length text) = w .place in
-      let same : length (front ++ out) ≡ length out = ap length e in
-      subst (λ (l : List ℕ). Prints text out TooShort l) (sym e) (prints-short (omega arith))
-
-  pub fitted : {out after : List ℕ} {end : ℕ} → length (front ++ out) < lastPlace → size ≤ length (front ++ out) → Wrote (front ++ out) 0 text after end
-      → Prints text out (Text end) after
-  unfolding behind
-  fitted {out} {after} {end} most h v =
-      let e = untouched out in
-      let p : size ≡ behind 0 (length text) = w .place in
-      let q : end ≡ behind 0 (length text) = v .place in
-      let same : length (front ++ out) ≡ length out = ap length e in
-      prints-long (omega arith) (omega arith) (rw e at (v .list))
+-- `front` is the part of the list, no bytes long, into which the text was written to measure it
+pub measured : {text front out : List ℕ} {size : ℕ} → Wrote [] 0 text front size → Measured text out (front ++ out) size
+unfolding behind
+measured {text} {front} {out} {size} w =
+    let e : front ++ out ≡ out = ap (λ (f : List ℕ). f ++ out) (w .list ∙ sets-past [] 0 text (omega arith)) in
+    let p : size ≡ behind 0 (length text) = w .place in
+    let same : length (front ++ out) ≡ length out = ap length e in
+    record {
+      short = λ h. subst (λ (l : List ℕ). Prints text out TooShort l) (sym e) (prints-short (omega arith));
+      long = λ {after} {end} h v most. let q : end ≡ behind 0 (length text) = v .place in prints-long (omega arith) (omega arith) (rw e at (v .list));
+    }
 
 -- the same text, said otherwise
 pub text-is : (text other out : List ℕ) {p : Printed} {after : List ℕ} → text ≡ other → Prints text out p after → Prints other out p after
 text-is text other out {p} {after} e h = subst (λ (t : List ℕ). Prints t out p after) e h
-
-pub ruleset prints = (needs, too-short, fitted)

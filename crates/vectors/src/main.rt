@@ -7,10 +7,10 @@ use libc::STDOUT_FILENO;
 use run::texts::MOST_PANEL_TEXT;
 use run::texts::panel_text;
 use run::texts::where_text;
-use text::printed::Printed;
 use sheet_files::ROOM;
 use sheet_files::number_asked;
 use sheet_files::read_sheet;
+use text::printed::Printed;
 
 // The longest steps sheet whose texts also go into lists of their own length, and room for those.
 const MOST_SHORT: usize = 1024;

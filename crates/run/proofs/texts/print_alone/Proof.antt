@@ -1,5 +1,5 @@
 -- `print_alone` meets its contract: the text is measured, and written where it fits. Assumes nothing.
-use Rattle.text.proofs.Printing.{too-short, fitted}
+use Rattle.text.proofs.Printing.{measured}
 use native.Mathlib.Omega.{arith}
 use borrow.Author.Needs.{needs}
 use Rattle.run.proofs.texts.print_alone.Statement.{statement}
@@ -18,7 +18,7 @@ same-length : tie.Need-same-length
 same-length c = search needs
 
 returns : tie.Need-returns
-returns c = search (needs, too-short)
+returns c = measured (c .before .before .before .put-alone .ensures) .short (c .if1 .taken)
 
 put-alone-requires-2 : tie.Need-put-alone-requires-2
 put-alone-requires-2 c κs = search needs
@@ -27,7 +27,7 @@ same-length-2 : tie.Need-same-length-2
 same-length-2 c = search needs
 
 returns-2 : tie.Need-returns-2
-returns-2 c = fitted (c .before .before .before .before .before .before .before .put-alone .ensures) (omega arith) (c .before .before .before .before .if1 .left) (c .before .before .put-alone2 .ensures)
+returns-2 c = measured (c .before .before .before .before .before .before .before .put-alone .ensures) .long (c .before .before .before .before .if1 .left) (c .before .before .put-alone2 .ensures) (omega arith)
 
 pub print-alone-spec : {M : Type 1} → statement M
 print-alone-spec =
