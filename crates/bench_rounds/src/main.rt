@@ -1,9 +1,10 @@
 // `rounds`: does what `panel` does, as many times over as its argument says (once without one), and writes the last text.
 // bench/run times it.
 use libc::STDOUT_FILENO;
-use run::texts::MOST_PANEL_TEXT;
+use run::blank::MOST_PANEL_TEXT;
+use run::blank::blank_panel_text;
 use run::texts::panel_text;
-use sheet_files::ROOM;
+use sheet_files::blank_sheet;
 use sheet_files::number_asked;
 use sheet_files::read_sheet;
 use text::printed::Printed;
@@ -27,9 +28,9 @@ fn text_once<'a>(site: &'a [u8], steps: &'a [u8], out: &'a mut [u8]) -> usize {
 }
 
 fn main() {
-    let mut site = [0u8; ROOM];
-    let mut steps = [0u8; ROOM];
-    let mut out = [0u8; MOST_PANEL_TEXT];
+    let mut site = blank_sheet();
+    let mut steps = blank_sheet();
+    let mut out = blank_panel_text();
     let in_site = read_sheet(b"site.csv", &mut site);
     let in_steps = read_sheet(b"steps.csv", &mut steps);
     let length = text_in_rounds(
