@@ -1,9 +1,9 @@
 // `rounds`: does what `panel` does, as many times over as its argument says (once without one), and writes the last text.
 // bench/run times it.
 use libc::STDOUT_FILENO;
-use run::blank::MOST_PANEL_TEXT;
-use run::blank::blank_panel_text;
 use run::texts::panel_text;
+use run_text::blank::MOST_PANEL_TEXT;
+use run_text::blank::blank_panel_text;
 use sheet_files::blank_sheet;
 use sheet_files::number_asked;
 use sheet_files::read_sheet;

@@ -23,12 +23,12 @@ use Rattle.demands.specs.Unique.{AnswersUnique}
 use Rattle.demands.specs.Cases.{TwelveCases}
 use Rattle.demands.proofs.DemandOne.{of-sheet, of-rules, of-record, of-site}
 use Rattle.demands.proofs.Leaves.{of-tables, of-door, of-sound}
-use Rattle.demands.proofs.Texts.{of-run}
+use Rattle.demands.proofs.Texts.{of-text, of-run}
 use Rattle.demands.proofs.DemandTwo.{way-of, after-steps, is-event, decided, starts, alters, green-counts, red-counts}
 use Rattle.card_by_card.proofs.DemandThree as three
 use Rattle.card_by_card.proofs.Warden as warden
 use Rattle.demands.proofs.Accepted.{accepted-fresh}
-use Rattle.demands.proofs.Unique.{sheet-unique, tables-unique, rules-unique, door-unique, sound-unique, record-unique, site-unique, run-unique, papers-unique}
+use Rattle.demands.proofs.Unique.{sheet-unique, text-unique, tables-unique, rules-unique, door-unique, sound-unique, record-unique, site-unique, run-unique, papers-unique}
 use Rattle.demands.proofs.TwelveCases as cases
 
 -- "1. Any sheet of text, any record, any number for a door or a person: the panel ends, and acts or refuses by a number from the
@@ -37,6 +37,7 @@ pub demand-1 : DemandOne
 demand-1 =
     record {
       of-sheet = of-sheet;
+      of-text = of-text;
       of-tables = of-tables;
       of-rules = of-rules;
       of-door = of-door;
@@ -89,6 +90,7 @@ pub answers-unique : AnswersUnique
 answers-unique =
     record {
       of-sheet = sheet-unique;
+      of-text = text-unique;
       of-tables = tables-unique;
       of-rules = rules-unique;
       of-door = door-unique;

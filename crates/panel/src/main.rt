@@ -1,9 +1,9 @@
 // `panel`: reads site.csv and steps.csv of the folder that it is run in and writes what the panel answers to each row. The text
 // is proved in the crate `run`; here is only reading and writing.
 use libc::STDOUT_FILENO;
-use run::blank::MOST_PANEL_TEXT;
-use run::blank::blank_panel_text;
 use run::texts::panel_text;
+use run_text::blank::MOST_PANEL_TEXT;
+use run_text::blank::blank_panel_text;
 use sheet_files::blank_sheet;
 use sheet_files::read_sheet;
 use text::printed::Printed;

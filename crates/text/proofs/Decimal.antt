@@ -65,3 +65,11 @@ two-digits = wider 10 1 one-digit
 
 pub four-digits : (n : ℕ) → n < 10000 → length (decimal n) ≤ 4
 four-digits = wider 1000 3 (wider 100 2 two-digits)
+
+-- and there is one at least
+pub decimal-some : (n : ℕ) → 1 ≤ length (decimal n)
+decimal-some n = go (ltb n 10) refl
+  where
+    go : (q : Bool) → ltb n 10 ≡ q → 1 ≤ length (decimal n)
+    go true q = rw (decimal-short n (ltb-true n 10 q)) (omega arith)
+    go false q = let l = length-append (decimal (n / 10)) (digitByte (n % 10) ∷ []) in rw (decimal-long n (ltb-false n 10 q)) (omega arith)

@@ -9,6 +9,7 @@ use lib.Seq.{drop-cons}
 use Rattle.grammar.specs.Grammar.{comma, cr, lf}
 use Rattle.text.specs.Text.{decimal, rowOfNumbers}
 use Rattle.text.specs.Wrote.{Wrote}
+use Rattle.text.proofs.Decimal.{decimal-some}
 use Rattle.text.proofs.Writing.{Pending, more, last}
 
 pub last-length : (n : ℕ) → length (rowOfNumbers n []) ≡ length (decimal n) + 2
@@ -18,6 +19,10 @@ last-length n = length-append (decimal n) (cr ∷ lf ∷ [])
 pub more-length : (n m : ℕ) (ns : List ℕ) → length (rowOfNumbers n (m ∷ ns)) ≡ length (decimal n) + 1 + length (rowOfNumbers m ns)
 unfolding rowOfNumbers
 more-length n m ns = let l = length-append (decimal n) (comma ∷ rowOfNumbers m ns) in omega arith
+
+pub row-some : (n : ℕ) (ns : List ℕ) → 3 ≤ length (rowOfNumbers n ns)
+row-some n [] = let l = last-length n in let d = decimal-some n in omega arith
+row-some n (m ∷ ns) = let l = more-length n m ns in let d = row-some m ns in omega arith
 
 -- the loop over the numbers behind the first has come to the one at i; `n` is in front of it
 pub record InRow (first : ℕ) (numbers before : List ℕ) (at : ℕ) (out : List ℕ) (next n i : ℕ) : Type 0 where

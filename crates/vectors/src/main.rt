@@ -4,9 +4,9 @@
 // byte too short for it (13, and no byte of the list is altered) and one that is just long enough (0, and the text).
 // tests/make-vectors makes the sheets, and from the papers' reference what is expected.
 use libc::STDOUT_FILENO;
-use run::blank::blank_panel_text;
 use run::texts::panel_text;
 use run::texts::where_text;
+use run_text::blank::blank_panel_text;
 use sheet_files::ROOM;
 use sheet_files::number_asked;
 use sheet_files::read_sheet;

@@ -1,9 +1,9 @@
 // `where`: reads site.csv and steps.csv of the folder that it is run in and writes where everyone is after the steps. The text
 // is proved in the crate `run`; here is only reading and writing.
 use libc::STDOUT_FILENO;
-use run::blank::MOST_WHERE_TEXT;
-use run::blank::blank_where_text;
 use run::texts::where_text;
+use run_text::blank::MOST_WHERE_TEXT;
+use run_text::blank::blank_where_text;
 use sheet_files::blank_sheet;
 use sheet_files::read_sheet;
 use text::printed::Printed;
