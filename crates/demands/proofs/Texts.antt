@@ -30,7 +30,6 @@ use Rattle.run_text.specs.declared.steps.Heading.{Heading}
 use Rattle.run_text.specs.declared.steps.Heading.the-variants as heading
 use Rattle.text.specs.declared.printed.Printed.{Printed}
 use Rattle.text.specs.declared.printed.Printed.the-variants.{Text, TooShort}
-use Rattle.text.specs.Text.{decimal, rowOfNumbers}
 use Rattle.text.specs.Wrote.{Wrote}
 use Rattle.text.specs.Wrote as wrote
 use Rattle.text.specs.Printed.{fitsIn, printedOf, written, printedNo}

@@ -1,8 +1,7 @@
 -- A text is measured by writing it into no bytes, and written where it fits: `measured` is the law of every function that prints.
 -- Assumes nothing.
-use Prim.Native.Nat.{ℕ, _+_, _≤_, _<_}
-use mathlib.Core.Path.{_≡_, refl, sym, ap, subst, _∙_}
-use mathlib.Core.Bool.{Bool, true, false, cond}
+use Prim.Native.Nat.{ℕ, _≤_, _<_}
+use mathlib.Core.Path.{_≡_, sym, ap, subst, _∙_}
 use mathlib.Core.List.{List, [], _++_}
 use native.Mathlib.Omega.{arith}
 use borrow.Author.Tests.{le-leb, lt-leb}
@@ -14,26 +13,14 @@ use Rattle.text.specs.Wrote.{lastPlace, behind, Wrote}
 use Rattle.text.specs.Printed.{fitsIn, printedOf, written, Prints}
 use Rattle.text.proofs.Writing.{sets-past}
 
-short-list : (text out : List ℕ) → length out < length text → fitsIn text out ≡ false
-unfolding fitsIn
-short-list text out h = lt-leb (length text) (length out) h
-
-long-list : (text out : List ℕ) → length text ≤ length out → fitsIn text out ≡ true
-unfolding fitsIn
-long-list text out h = le-leb (length text) (length out) h
-
--- what was told and what the list holds, by whether the text fits
+-- what is told and what the list holds, by whether the text fits
 prints-short : {text out : List ℕ} → length out < length text → Prints text out TooShort out
-unfolding printedOf written
-prints-short {text} {out} h =
-    let e = short-list text out h in
-    record { answer = rw e; list = rw e }
+unfolding fitsIn printedOf written
+prints-short {text} {out} h = let e = lt-leb (length text) (length out) h in record { answer = rw e; list = rw e }
 
 prints-long : {text out after : List ℕ} {end : ℕ} → length text ≤ length out → end ≡ length text → after ≡ sets out 0 text → Prints text out (Text end) after
-unfolding printedOf written
-prints-long {text} {out} h e a =
-    let f = long-list text out h in
-    record { answer = rw (f, e); list = rw f a }
+unfolding fitsIn printedOf written
+prints-long {text} {out} h e a = let f = le-leb (length text) (length out) h in record { answer = rw (f, e); list = rw f a }
 
 -- a text that was measured: 13 and nothing written where the list is shorter, else it is written
 pub record Measured (text out whole : List ℕ) (size : ℕ) : Type 0 where

@@ -1,7 +1,6 @@
 -- Small texts: numbers at the ends of their widths, rows, a text in lists of three lengths.
-use Prim.Native.Nat.{ℕ}
 use mathlib.Core.Path.{_≡_}
-use mathlib.Core.List.{List, [], _∷_}
+use mathlib.Core.List.{[], _∷_}
 use Rattle.text.specs.declared.printed.Printed.the-variants.{Text, TooShort}
 use Rattle.text.specs.Text.{decimal, rowOfNumbers}
 use Rattle.text.specs.Wrote.{lastPlace, behind}

@@ -16,10 +16,7 @@ slice-aggregate-print-places c =
     sym (length-take-le _ _ (omega (arith, shaped .places, c .before .before .before .pre)))
 
 print-places-requires : tie.Need-print-places-requires
-print-places-requires c κs =
-    let shaped : Shaped (c .before .before .before .before .args .r) = search needs in
-    let short = length-take-le (c .before .before .before .before .args .r .people) (c .before .before .before .before .args .r .place) (omega (arith, shaped .places, c .before .before .before .before .pre)) in
-    omega (arith, c .before .before .before .before .pre)
+print-places-requires c κs = search needs
 
 same-length : tie.Need-same-length
 same-length c = search needs
