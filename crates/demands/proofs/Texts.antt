@@ -185,8 +185,11 @@ where-fits site steps =
     (λ _. none-fit)
 
 -- so it is printed whole there
+blank-long : (n : ℕ) → length {A = ℕ} (replicate n 0) ≡ n
+blank-long n = length-replicate {A = ℕ} n 0
+
 in-blank : {most : ℕ} (text : List ℕ) → length text ≤ most → printedOf text (replicate most 0) ≡ Text (length text)
-in-blank {most} text h = let l : length {A = ℕ} (replicate most 0) ≡ most = length-replicate most 0 in text-tells text (replicate most 0) .a-length (omega arith)
+in-blank {most} text h = let l = blank-long most in text-tells text (replicate most 0) .a-length (omega arith)
 
 pub of-run : RunAnswers
 of-run =
@@ -194,7 +197,7 @@ of-run =
       heading-of = heading-told;
       panel-text = λ site steps out. text-tells (panelText site steps) out;
       where-text = λ site steps out. text-tells (whereText site steps) out;
-      blank-sheet = λ s h. let l : length {A = ℕ} (replicate (limit + 1) 0) ≡ limit + 1 = length-replicate (limit + 1) 0 in omega arith;
+      blank-sheet = λ s h. let l = blank-long (limit + 1) in omega arith;
       panel-fits = panel-fits;
       where-fits = where-fits;
       blank-panel-text = λ site steps. in-blank (panelText site steps) (panel-fits site steps);
