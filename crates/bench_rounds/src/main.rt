@@ -1,12 +1,13 @@
 // `rounds`: does what `panel` does, as many times over as its argument says (once without one), and writes the last text.
 // bench/run times it.
 use libc::STDOUT_FILENO;
-use run::text::MOST_PANEL_TEXT;
-use run::text::panel_text;
-use run_text::text::Printed;
-use sheet_files::ROOM;
+use run::texts::panel_text;
+use run_text::blank::MOST_PANEL_TEXT;
+use run_text::blank::blank_panel_text;
+use sheet_files::blank_sheet;
 use sheet_files::number_asked;
 use sheet_files::read_sheet;
+use text::printed::Printed;
 
 // The same text again and again into the same list; the last one's length, 0 for no round.
 fn text_in_rounds<'a>(rounds: usize, site: &'a [u8], steps: &'a [u8], out: &'a mut [u8]) -> usize {
@@ -27,9 +28,9 @@ fn text_once<'a>(site: &'a [u8], steps: &'a [u8], out: &'a mut [u8]) -> usize {
 }
 
 fn main() {
-    let mut site = [0u8; ROOM];
-    let mut steps = [0u8; ROOM];
-    let mut out = [0u8; MOST_PANEL_TEXT];
+    let mut site = blank_sheet();
+    let mut steps = blank_sheet();
+    let mut out = blank_panel_text();
     let in_site = read_sheet(b"site.csv", &mut site);
     let in_steps = read_sheet(b"steps.csv", &mut steps);
     let length = text_in_rounds(

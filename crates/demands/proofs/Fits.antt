@@ -1,4 +1,4 @@
--- Every text that the two programs print fits into the list that they lend: a sheet has at most 6,144 steps, and what is told of a
+-- Every text that the two programs print fits into the list that they lend: a sheet has few steps, and what is told of a
 -- step is short. Assumes nothing.
 use Prim.Native.Nat.{ℕ, zero, suc, _+_, _-_, _*_, _≤_, _<_}
 use mathlib.Core.Path.{_≡_, refl, ap}
@@ -35,12 +35,13 @@ use Rattle.demands.proofs.Leaves.{effect-told, reason-small}
 use Rattle.run_text.specs.declared.steps.StepsLine.{StepsLine}
 use Rattle.run_text.specs.declared.steps.StepsLine.the-variants as line
 use Rattle.run_text.specs.Steps.{stepsLineAt, before, stepsIn, stepsFrom}
-use Rattle.run_text.specs.Text.{rowOfNumbers}
+use Rattle.text.specs.Text.{rowOfNumbers}
 use Rattle.run_text.specs.Printed.{panelRow, answerRows, placeRows}
-use Rattle.run_text.proofs.Writing.{one-digit, two-digits, four-digits, last-length, more-length}
+use Rattle.text.proofs.Decimal.{one-digit, two-digits, four-digits}
+use Rattle.text.proofs.Rows.{last-length, more-length}
 use Rattle.run_text.proofs.Decoding.{Takes, step-takes}
 
--- ---- a sheet has at most 6,144 steps
+-- ---- a sheet has few steps: each takes eight bytes
 
 -- a step's row leaves that much less for those behind it
 taken : {s : List ℕ} {at next : ℕ} (n : ℕ) (q : Bool) → ltb next (length s) ≡ q → Takes s at next → 8 * n ≤ length s + 2 - next → 8 * suc n ≤ length s + 2 - at
@@ -114,7 +115,7 @@ number-most Unsound = omega arith
 
 -- ---- the rows of a run
 
-row-short : (n a p r : ℕ) → n < 10000 → a ≤ 14 → p ≤ 9 → r ≤ 3 → length (panelRow n a p r) ≤ 13
+pub row-short : (n a p r : ℕ) → n < 10000 → a ≤ 14 → p ≤ 9 → r ≤ 3 → length (panelRow n a p r) ≤ 13
 row-short n a p r hn ha hp hr =
     let x = more-length n a (p ∷ r ∷ []) in
     let y = more-length a p (r ∷ []) in

@@ -1,4 +1,4 @@
--- Demand 1 for the crate `run`: where the rows of a steps sheet begin, and the two texts in a lent list. Assumes nothing.
+-- Demand 1 for the crates `text` and `run`: a text in a lent list, where the rows of a steps sheet begin, and the two texts. Assumes nothing.
 use Prim.Native.Nat.{ℕ, _+_, _≤_, _<_}
 use mathlib.Core.Path.{_≡_, refl, sym, ap, _∙_}
 use mathlib.Core.Bool.{Bool, true, false, cond, true≢false}
@@ -8,8 +8,8 @@ use native.Mathlib.Omega.{arith}
 use borrow.Author.Tests.{eqb-true, ltb-true, ltb-false, leb-true, leb-false}
 use lib.Dec.{eqb, ltb, leb}
 use native.Mathlib.Nat.{zero-add}
-use lib.ListN.{length, getD, take, drop, length-append}
-use lib.Seq.{sets-eq, getD-take, length-take-le}
+use lib.ListN.{length, getD, take, drop, replicate, length-append, length-replicate}
+use lib.Seq.{length-sets, sets-eq, getD-take, length-take-le}
 use Rattle.tables.specs.Tables.{mostLocations}
 use Rattle.grammar.specs.Cut.{cutRow}
 use Rattle.grammar.specs.Rows.{rowsFrom}
@@ -28,18 +28,23 @@ use Rattle.site_sheet.specs.Accepted.{AcceptedRecord}
 use Rattle.site_sheet.proofs.Theorems.{accepted-holds}
 use Rattle.run_text.specs.declared.steps.Heading.{Heading}
 use Rattle.run_text.specs.declared.steps.Heading.the-variants as heading
-use Rattle.run_text.specs.declared.text.Printed.{Printed}
-use Rattle.run_text.specs.declared.text.Printed.the-variants.{Text, TooShort}
+use Rattle.text.specs.declared.printed.Printed.{Printed}
+use Rattle.text.specs.declared.printed.Printed.the-variants.{Text, TooShort}
+use Rattle.text.specs.Wrote.{Wrote}
+use Rattle.text.specs.Wrote as wrote
+use Rattle.text.specs.Printed.{fitsIn, printedOf, written, printedNo}
+use Rattle.text.proofs.Writing.{sets-past}
+use Rattle.text.proofs.Decimal.{decimal-some}
+use Rattle.text.proofs.Rows.{row-some}
 use Rattle.run_text.specs.Steps.{stepsHeaderAt, headed, headingOf, stepsFrom, rowsIn}
 use Rattle.run_text.specs.Printed.{panelHeader, whereHeader, panelRow, answerRows, lastRow, runText, aloneText, ranText, stepsText, panelText}
-use Rattle.run_text.specs.Printed.{placeRows, placesText, recordText, lastRecord, whereText, fitsIn, printedOf, written, printedNo}
-use Rattle.run_text.proofs.Writing.{four-width}
+use Rattle.run_text.specs.Printed.{placeRows, placesText, recordText, lastRecord, whereText, mostPanelText, mostWhereText}
 use Rattle.run_text.proofs.Serving.{steps-even, steps-replied, rows-length}
 use Rattle.run_text.proofs.Sheets.{zero-accepted, headed-short}
-use Rattle.demands.specs.DemandOne.{HeadingTold, TextTells, RunAnswers}
+use Rattle.demands.specs.DemandOne.{TextWritten, TextTells, TextAnswers, HeadingTold, RunAnswers}
 use Rattle.demands.specs.Telling.{OneOf}
 use Rattle.demands.proofs.DemandOne.{number-most, of-rules}
-use Rattle.demands.proofs.Fits.{steps-few, rows-short, places-short}
+use Rattle.demands.proofs.Fits.{steps-few, row-short, rows-short, places-short}
 
 heading-told : (s : List ℕ) → HeadingTold s (headingOf s)
 unfolding headingOf
@@ -80,20 +85,41 @@ a-text-number : (p : Printed) → OneOf (0 ∷ 13 ∷ []) (printedNo p)
 a-text-number (Text n) = inl refl
 a-text-number TooShort = inr (inl refl)
 
+written-told : {list : List ℕ} {at : ℕ} {text after : List ℕ} {next : ℕ} → Wrote list at text after next → TextWritten list at text after next
+unfolding wrote.behind
+written-told {list} {at} {text} w =
+    let p = w .place in
+    record {
+      as-long = rw (w .list) (length-sets list at text);
+      within = λ h. w .list ∙ sets-eq text list at h;
+      past = λ h. w .list ∙ sets-past list at text h;
+      behind = λ h. omega arith;
+    }
+
+pub of-text : TextAnswers
+of-text =
+    record {
+      put = λ list at byte after next w. written-told w;
+      put-bytes = λ list at bytes after next w. written-told w;
+      put-number = λ list at n after next w. (written-told w, decimal-some n);
+      put-row = λ list at first numbers after next w. (written-told w, row-some first numbers);
+      printed-number = a-text-number;
+    }
+
 -- ---- every text fits into the list that its program lends
 
-alone-fits : (n : ℕ) → n ≤ 10 → length (aloneText n) ≤ 81920
+alone-fits : (n : ℕ) → n ≤ 10 → length (aloneText n) ≤ mostPanelText
 unfolding aloneText
 alone-fits n h =
     let l = length-append panelHeader (panelRow 0 n 0 0) in
-    let w = four-width 0 n 0 0 (omega arith) (omega arith) (omega arith) (omega arith) in
+    let w = row-short 0 n 0 0 (omega arith) (omega arith) (omega arith) (omega arith) in
     omega arith
 
-last-fits : (whole : Bool) (n : ℕ) → n < 100000 → length (lastRow whole n) ≤ 25
+last-fits : (whole : Bool) (n : ℕ) → n < 10000 → length (lastRow whole n) ≤ 13
 last-fits true n h = omega arith
-last-fits false n h = four-width n 2 0 0 h (omega arith) (omega arith) (omega arith)
+last-fits false n h = row-short n 2 0 0 h (omega arith) (omega arith) (omega arith)
 
-ran-fits : (r : Record) → Shaped r → Sound r → (s : List ℕ) (from : ℕ) → length s ≤ limit → length (ranText r (stepsFrom s from)) ≤ 81920
+ran-fits : (r : Record) → Shaped r → Sound r → (s : List ℕ) (from : ℕ) → length s ≤ limit → length (ranText r (stepsFrom s from)) ≤ mostPanelText
 unfolding runText
 ran-fits r sh s sheet from h =
     let steps = stepsFrom sheet from in
@@ -111,15 +137,15 @@ ran-fits r sh s sheet from h =
     omega arith
 
 steps-fit : (site : List ℕ) → AcceptedRecord site → (steps : List ℕ) (h : Heading) → headingOf steps ≡ h
-    → length (stepsText (siteOf site .«record») steps h) ≤ 81920
+    → length (stepsText (siteOf site .«record») steps h) ≤ mostPanelText
 steps-fit site a steps heading.TooLong e = alone-fits 1 (omega arith)
 steps-fit site a steps heading.Wrong e = alone-fits 2 (omega arith)
 steps-fit site a steps (heading.Rows from) e = ran-fits (siteOf site .«record») (a .shaped) (a .sound) steps from (headed-short steps e)
 
-panel-fits : (site steps : List ℕ) → length (panelText site steps) ≤ 81920
+panel-fits : (site steps : List ℕ) → length (panelText site steps) ≤ mostPanelText
 unfolding panelText
 panel-fits site steps =
-    either (λ (t : List ℕ). length t ≤ 81920) (eqb (verdictNo (siteOf site .verdict)) 0)
+    either (λ (t : List ℕ). length t ≤ mostPanelText) (eqb (verdictNo (siteOf site .verdict)) 0)
     (λ z. steps-fit site (accepted-holds site (zero-accepted (siteOf site .verdict) (eqb-true _ _ z))) steps (headingOf steps) refl)
     (λ _. alone-fits (verdictNo (siteOf site .verdict)) (number-most (siteOf site .verdict)))
 
@@ -131,7 +157,7 @@ place-small r s p h = go (leb mostLocations (getD (r .place) p 0)) refl
     go true q = absurd (true≢false (sym (s .placed p h) ∙ of-rules .may-be (r .right) p (getD (r .place) p 0) .1 (leb-true _ _ q)))
     go false q = let l = leb-false mostLocations (getD (r .place) p 0) q in omega arith
 
-record-fits : (r : Record) → Shaped r → Sound r → length (recordText r) ≤ 512
+record-fits : (r : Record) → Shaped r → Sound r → length (recordText r) ≤ mostWhereText
 unfolding placesText
 record-fits r sh s =
     let people = s .tables .in-range .people-to in
@@ -141,23 +167,30 @@ record-fits r sh s =
     let short = places-short (take (r .people) (r .place)) 0 (omega arith) (λ i k. rw (getD-take (r .people) (r .place) i 0 (omega arith)) (place-small r s i (omega arith))) in
     omega arith
 
-last-fits-where : (site : List ℕ) → AcceptedRecord site → (steps : List ℕ) (h : Heading) → length (recordText (lastRecord (siteOf site .«record») steps h)) ≤ 512
+last-fits-where : (site : List ℕ) → AcceptedRecord site → (steps : List ℕ) (h : Heading) → length (recordText (lastRecord (siteOf site .«record») steps h)) ≤ mostWhereText
 last-fits-where site a steps heading.TooLong = record-fits (siteOf site .«record») (a .shaped) (a .sound)
 last-fits-where site a steps heading.Wrong = record-fits (siteOf site .«record») (a .shaped) (a .sound)
 last-fits-where site a steps (heading.Rows from) =
     let rows = rowsIn (stepsFrom steps from) in
     record-fits _ (run-shaped (siteOf site .«record») rows (a .shaped)) (run-sound (siteOf site .«record») rows (a .shaped) (a .sound))
 
-none-fit : length (placesText []) ≤ 512
+none-fit : length (placesText []) ≤ mostWhereText
 unfolding placesText placeRows
 none-fit = omega arith
 
-where-fits : (site steps : List ℕ) → length (whereText site steps) ≤ 512
+where-fits : (site steps : List ℕ) → length (whereText site steps) ≤ mostWhereText
 unfolding whereText
 where-fits site steps =
-    either (λ (t : List ℕ). length t ≤ 512) (eqb (verdictNo (siteOf site .verdict)) 0)
+    either (λ (t : List ℕ). length t ≤ mostWhereText) (eqb (verdictNo (siteOf site .verdict)) 0)
     (λ z. last-fits-where site (accepted-holds site (zero-accepted (siteOf site .verdict) (eqb-true _ _ z))) steps (headingOf steps))
     (λ _. none-fit)
+
+-- so it is printed whole there
+blank-long : (n : ℕ) → length {A = ℕ} (replicate n 0) ≡ n
+blank-long n = length-replicate {A = ℕ} n 0
+
+in-blank : {most : ℕ} (text : List ℕ) → length text ≤ most → printedOf text (replicate most 0) ≡ Text (length text)
+in-blank {most} text h = let l = blank-long most in text-tells text (replicate most 0) .a-length (omega arith)
 
 pub of-run : RunAnswers
 of-run =
@@ -165,7 +198,9 @@ of-run =
       heading-of = heading-told;
       panel-text = λ site steps out. text-tells (panelText site steps) out;
       where-text = λ site steps out. text-tells (whereText site steps) out;
-      printed-number = a-text-number;
+      blank-sheet = λ s h. let l = blank-long (limit + 1) in omega arith;
       panel-fits = panel-fits;
       where-fits = where-fits;
+      blank-panel-text = λ site steps. in-blank (panelText site steps) (panel-fits site steps);
+      blank-where-text = λ site steps. in-blank (whereText site steps) (where-fits site steps);
     }

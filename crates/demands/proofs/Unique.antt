@@ -4,8 +4,11 @@ use mathlib.Core.Path.{_≡_, sym, _∙_}
 use mathlib.Core.List.{List}
 use Rattle.record.proofs.Right.{reason-only}
 use Rattle.site_sheet.proofs.Only.{gives-site}
+use Rattle.text.specs.declared.printed.Printed.{Printed}
+use Rattle.text.specs.Wrote.{Wrote}
+use Rattle.text.specs.Printed.{Prints}
 use Rattle.demands.specs.Telling.{Unique}
-use Rattle.demands.specs.Unique.{SheetUnique, TablesUnique, RulesUnique, DoorUnique, SoundUnique, RecordUnique, SiteUnique, RunUnique, PapersUnique}
+use Rattle.demands.specs.Unique.{SheetUnique, TextUnique, TablesUnique, RulesUnique, DoorUnique, SoundUnique, RecordUnique, SiteUnique, RunUnique, PapersUnique}
 
 -- an equation allows one answer,
 pub alone : {A : Type 0} {a : A} → Unique (λ (x : A). x ≡ a)
@@ -25,6 +28,13 @@ beside-three x y p q =
     let h = p .3 ∙ sym (q .3) in
     λ i. (e i, f i, g i, h i)
 
+-- a text that is written has one place behind it and leaves one list, and one that is printed one answer and one list
+one-written : {list text : List ℕ} {at : ℕ} → Unique (λ (x : ℕ × List ℕ). Wrote list at text (x .1) (x .0))
+one-written x y p q = beside x y (p .place, p .list) (q .place, q .list)
+
+one-printed : {text list : List ℕ} → Unique (λ (x : Printed × List ℕ). Prints text list (x .0) (x .1))
+one-printed x y p q = beside x y (p .answer, p .list) (q .answer, q .list)
+
 pub sheet-unique : SheetUnique
 sheet-unique =
     record {
@@ -38,6 +48,16 @@ sheet-unique =
       is-word = λ s cell word. alone;
       says-words = λ s cells x y z. alone;
       number-of = λ s cell. alone;
+    }
+
+pub text-unique : TextUnique
+text-unique =
+    record {
+      put = λ list at byte. one-written;
+      put-bytes = λ list at bytes. one-written;
+      put-number = λ list at n. one-written;
+      put-row = λ list at first numbers. one-written;
+      printed-number = λ p. alone;
     }
 
 pub tables-unique : TablesUnique
@@ -111,9 +131,11 @@ pub run-unique : RunUnique
 run-unique =
     record {
       heading-of = λ s. alone;
-      panel-text = λ site steps out. beside;
-      where-text = λ site steps out. beside;
-      printed-number = λ p. alone;
+      panel-text = λ site steps out. one-printed;
+      where-text = λ site steps out. one-printed;
+      blank-sheet = alone;
+      blank-panel-text = alone;
+      blank-where-text = alone;
     }
 
 pub papers-unique : PapersUnique

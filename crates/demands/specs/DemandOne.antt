@@ -2,12 +2,12 @@
 -- from the papers. A refusal alters no record and no list lent to it." Each field is a public function, and says what follows of
 -- the definition that its promise cites. A function that answers no number tells a place or a fact: the place is there, the fact
 -- is told exactly.
-use Prim.Native.Nat.{ℕ, _≤_, _<_}
+use Prim.Native.Nat.{ℕ, _+_, _≤_, _<_}
 use mathlib.Core.Path.{_≡_}
 use mathlib.Core.Bool.{Bool, true, false}
 use mathlib.Core.List.{List, [], _∷_, _++_, map}
 use mathlib.Core.Logic.{_⊎_, _↔_}
-use lib.ListN.{length, getD, set, drop}
+use lib.ListN.{length, getD, set, take, drop, replicate}
 use lib.Seq.{sets}
 use denote.Ref.{RefT, now}
 use Rattle.sheet.specs.declared.reader.Reader.{Reader}
@@ -25,6 +25,11 @@ use Rattle.grammar.specs.Rows.{countRows}
 use Rattle.grammar.specs.Past.{pastRow, firstDataRow}
 use Rattle.sheet.specs.Reader.{readerAt, movedOn}
 use Rattle.grammar.specs.Say.{contentAt, isWord, saysWords, numberAt}
+use Rattle.text.specs.declared.printed.Printed.{Printed}
+use Rattle.text.specs.declared.printed.Printed.the-variants.{Text}
+use Rattle.text.specs.Text.{decimal, rowOfNumbers}
+use Rattle.text.specs.Wrote.{lastPlace, Wrote}
+use Rattle.text.specs.Printed.{printedOf, written, printedNo}
 use Rattle.tables.specs.declared.Found.the-variants.{At, Nothing}
 use Rattle.tables.specs.declared.RightFound.the-variants as pair
 use Rattle.tables.specs.declared.WayTold.the-variants.{Length, TooShort}
@@ -65,11 +70,8 @@ use Rattle.site_sheet.specs.Site as site
 use Rattle.site_sheet.specs.Gives.{Gives}
 use Rattle.run_text.specs.declared.steps.Heading.{Heading}
 use Rattle.run_text.specs.declared.steps.Heading.the-variants as heading
-use Rattle.run_text.specs.declared.text.Printed.{Printed}
-use Rattle.run_text.specs.declared.text.Printed.the-variants.{Text}
 use Rattle.run_text.specs.Steps.{headingOf}
-use Rattle.run_text.specs.Printed.{panelText, whereText, printedOf, printedNo}
-use Rattle.run_text.specs.Printed as run
+use Rattle.run_text.specs.Printed.{panelText, whereText, mostPanelText, mostWhereText}
 use Rattle.demands.specs.Telling.{Order, done, _unless_then_, NumberBy, OneOf}
 use Rattle.demands.specs.Answered.{EnumAnswers}
 
@@ -117,6 +119,34 @@ pub record SheetAnswers : Type 0 where
       → (cells .count ≡ 3) × (contentAt s (cells .first) ≡ x) × (contentAt s (cells .second) ≡ y) × (contentAt s (cells .third) ≡ z)
   -- "A number is 1 to 3 digits"
   pub number-of : (s : List ℕ) (cell : Cell) (n : ℕ) → numberAt s cell ≡ Is n → n ≤ 999
+
+-- ---- crate `text`
+
+-- a text is written at a place of a list, which stays as long as it was: within the list it stands there, the rest is unaltered and
+-- the place behind it is told; past the list's end nothing is written
+pub record TextWritten (list : List ℕ) (at : ℕ) (text after : List ℕ) (next : ℕ) : Type 0 where
+  pub as-long : length after ≡ length list
+  pub within : at + length text ≤ length list → after ≡ take at list ++ text ++ drop (at + length text) list
+  pub past : length list ≤ at → after ≡ list
+  pub behind : at + length text ≤ lastPlace → next ≡ at + length text
+
+-- 13: "list lent .. is shorter"; else the text stands in front, its length told, and the rest is unaltered
+pub record TextTells (text out : List ℕ) : Type 0 where
+  pub number : NumberBy (13 unless length text ≤ length out then done) (printedNo (printedOf text out))
+  pub a-length : length text ≤ length out → printedOf text out ≡ Text (length text)
+  pub in-front : length text ≤ length out → written text out ≡ text ++ drop (length text) out
+  pub unaltered : length out < length text → written text out ≡ out
+
+pub record TextAnswers : Type 0 where
+  pub put : (list : List ℕ) (at byte : ℕ) (after : List ℕ) (next : ℕ) → Wrote list at (byte ∷ []) after next → TextWritten list at (byte ∷ []) after next
+  pub put-bytes : (list : List ℕ) (at : ℕ) (bytes after : List ℕ) (next : ℕ) → Wrote list at bytes after next → TextWritten list at bytes after next
+  -- a number has a digit at least
+  pub put-number : (list : List ℕ) (at n : ℕ) (after : List ℕ) (next : ℕ) → Wrote list at (decimal n) after next
+      → TextWritten list at (decimal n) after next × (1 ≤ length (decimal n))
+  -- a row has a digit and CRLF at least
+  pub put-row : (list : List ℕ) (at first : ℕ) (more after : List ℕ) (next : ℕ) → Wrote list at (rowOfNumbers first more) after next
+      → TextWritten list at (rowOfNumbers first more) after next × (3 ≤ length (rowOfNumbers first more))
+  pub printed-number : (p : Printed) → OneOf (0 ∷ 13 ∷ []) (printedNo p)
 
 -- ---- crate `tables`
 
@@ -306,7 +336,7 @@ pub record SiteAnswers : Type 0 where
   -- "Unused place numbers are 0.": 9 alone tells two
   pub verdict-second-place : (v : Verdict) → (site.verdictNo v ≡ 9 → ⊥) → secondPlace v ≡ 0
 
--- ---- crate `run`
+-- ---- crates `run_text`, `run` and `sheet_files`
 
 -- a sheet that isn't too long has a header behind which its rows begin, or a wrong one
 abbrev pub HeadingTold : List ℕ → Heading → Type 0
@@ -314,26 +344,24 @@ HeadingTold s heading.TooLong = limit < length s
 HeadingTold s heading.Wrong = length s ≤ limit
 HeadingTold s (heading.Rows from) = (length s ≤ limit) × (1 ≤ from) × (from ≤ length s)
 
--- 13: "list lent .. is shorter"; else the text stands in front, its length told, and the rest is unaltered
-pub record TextTells (text out : List ℕ) : Type 0 where
-  pub number : NumberBy (13 unless length text ≤ length out then done) (printedNo (printedOf text out))
-  pub a-length : length text ≤ length out → printedOf text out ≡ Text (length text)
-  pub in-front : length text ≤ length out → run.written text out ≡ text ++ drop (length text) out
-  pub unaltered : length out < length text → run.written text out ≡ out
-
 pub record RunAnswers : Type 0 where
   pub heading-of : (s : List ℕ) → HeadingTold s (headingOf s)
   pub panel-text : (site steps out : List ℕ) → TextTells (panelText site steps) out
   pub where-text : (site steps out : List ℕ) → TextTells (whereText site steps) out
-  pub printed-number : (p : Printed) → OneOf (0 ∷ 13 ∷ []) (printedNo p)
-  -- the programs lend lists of 81,920 and of 512 bytes: no text is too long for them, so that each is printed whole
-  pub panel-fits : (site steps : List ℕ) → length (panelText site steps) ≤ 81920
-  pub where-fits : (site steps : List ℕ) → length (whereText site steps) ≤ 512
+  -- the list for a sheet has a byte more than a sheet may have, so that a longer file is seen to be longer
+  pub blank-sheet : (s : List ℕ) → length s ≤ limit → length s < length {A = ℕ} (replicate (limit + 1) 0)
+  -- no text is too long for the lists that the programs lend,
+  pub panel-fits : (site steps : List ℕ) → length (panelText site steps) ≤ mostPanelText
+  pub where-fits : (site steps : List ℕ) → length (whereText site steps) ≤ mostWhereText
+  -- so that each is printed whole in the list that is there for it
+  pub blank-panel-text : (site steps : List ℕ) → printedOf (panelText site steps) (replicate mostPanelText 0) ≡ Text (length (panelText site steps))
+  pub blank-where-text : (site steps : List ℕ) → printedOf (whereText site steps) (replicate mostWhereText 0) ≡ Text (length (whereText site steps))
 
 -- ---- all of them
 
 pub record DemandOne : Type 0 where
   pub of-sheet : SheetAnswers
+  pub of-text : TextAnswers
   pub of-tables : TablesAnswers
   pub of-rules : RulesAnswers
   pub of-door : DoorAnswers

@@ -1,11 +1,11 @@
 -- "That two answers both allowed are equal is itself a theorem" (01, "What the promises leave no room for"). Each field is a public
 -- function: whatever its promise allows, the answer and what each lent list holds at exit, is one thing. The promise stands as in the
 -- function's `ensures`.
-use Prim.Native.Nat.{ℕ}
+use Prim.Native.Nat.{ℕ, _+_}
 use mathlib.Core.Path.{_≡_}
 use mathlib.Core.Bool.{Bool}
-use mathlib.Core.List.{List}
-use lib.ListN.{length, getD, set}
+use mathlib.Core.List.{List, [], _∷_}
+use lib.ListN.{length, getD, set, replicate}
 use lib.Dec.{ltb}
 use denote.Ref.{RefT, now}
 use Rattle.sheet.specs.declared.reader.Reader.{Reader}
@@ -20,6 +20,11 @@ use Rattle.grammar.specs.Rows.{countRows}
 use Rattle.grammar.specs.Past.{firstDataRow}
 use Rattle.sheet.specs.Reader.{readerAt, movedOn}
 use Rattle.grammar.specs.Say.{isWord, saysWords, numberAt}
+use Rattle.grammar.specs.Sizes.{limit}
+use Rattle.text.specs.declared.printed.Printed.{Printed}
+use Rattle.text.specs.Text.{decimal, rowOfNumbers}
+use Rattle.text.specs.Wrote.{Wrote}
+use Rattle.text.specs.Printed.{Prints, printedNo}
 use Rattle.tables.specs.declared.Found.{Found}
 use Rattle.tables.specs.declared.Found.the-variants.{Nothing}
 use Rattle.tables.specs.declared.RightFound.{RightFound}
@@ -61,10 +66,8 @@ use Rattle.site_sheet.specs.Site.{siteOf, firstPlace, secondPlace}
 use Rattle.site_sheet.specs.Site as site
 use Rattle.site_sheet.specs.Gives.{Gives}
 use Rattle.run_text.specs.declared.steps.Heading.{Heading}
-use Rattle.run_text.specs.declared.text.Printed.{Printed}
 use Rattle.run_text.specs.Steps.{headingOf}
-use Rattle.run_text.specs.Printed.{panelText, whereText, printedOf, printedNo}
-use Rattle.run_text.specs.Printed as run
+use Rattle.run_text.specs.Printed.{panelText, whereText, mostPanelText, mostWhereText}
 use Rattle.demands.specs.Telling.{Unique}
 use Rattle.demands.specs.Answered.{EnumUnique}
 
@@ -79,6 +82,14 @@ pub record SheetUnique : Type 0 where
   pub is-word : (s : List ℕ) (cell : Cell) (word : List ℕ) → Unique (λ (x : Bool). x ≡ isWord s cell word)
   pub says-words : (s : List ℕ) (cells : Cells) (x y z : List ℕ) → Unique (λ (b : Bool). b ≡ saysWords s cells x y z)
   pub number-of : (s : List ℕ) (cell : Cell) → Unique (λ (x : Number). x ≡ numberAt s cell)
+
+pub record TextUnique : Type 0 where
+  -- the place told, and the lent list at exit
+  pub put : (list : List ℕ) (at byte : ℕ) → Unique (λ (x : ℕ × List ℕ). Wrote list at (byte ∷ []) (x .1) (x .0))
+  pub put-bytes : (list : List ℕ) (at : ℕ) (bytes : List ℕ) → Unique (λ (x : ℕ × List ℕ). Wrote list at bytes (x .1) (x .0))
+  pub put-number : (list : List ℕ) (at n : ℕ) → Unique (λ (x : ℕ × List ℕ). Wrote list at (decimal n) (x .1) (x .0))
+  pub put-row : (list : List ℕ) (at first : ℕ) (more : List ℕ) → Unique (λ (x : ℕ × List ℕ). Wrote list at (rowOfNumbers first more) (x .1) (x .0))
+  pub printed-number : (p : Printed) → Unique (λ (x : ℕ). x ≡ printedNo p)
 
 pub record TablesUnique : Type 0 where
   pub byte-at : (list : List ℕ) (at : ℕ) → Unique (λ (x : ℕ). x ≡ getD list at 0)
@@ -179,10 +190,12 @@ pub record RunUnique : Type 0 where
   pub heading-of : (s : List ℕ) → Unique (λ (x : Heading). x ≡ headingOf s)
   -- the answer, and the lent list at exit
   pub panel-text : (site steps out : List ℕ)
-      → Unique (λ (x : Printed × List ℕ). (x .0 ≡ printedOf (panelText site steps) out) × (x .1 ≡ run.written (panelText site steps) out))
+      → Unique (λ (x : Printed × List ℕ). Prints (panelText site steps) out (x .0) (x .1))
   pub where-text : (site steps out : List ℕ)
-      → Unique (λ (x : Printed × List ℕ). (x .0 ≡ printedOf (whereText site steps) out) × (x .1 ≡ run.written (whereText site steps) out))
-  pub printed-number : (p : Printed) → Unique (λ (x : ℕ). x ≡ printedNo p)
+      → Unique (λ (x : Printed × List ℕ). Prints (whereText site steps) out (x .0) (x .1))
+  pub blank-sheet : Unique (λ (x : List ℕ). x ≡ replicate (limit + 1) 0)
+  pub blank-panel-text : Unique (λ (x : List ℕ). x ≡ replicate mostPanelText 0)
+  pub blank-where-text : Unique (λ (x : List ℕ). x ≡ replicate mostWhereText 0)
 
 -- Where the papers say an answer by its conditions, not by a definition, they too allow one alone: the number and the place that
 -- the table gives a site sheet, and the first reason that applies.
@@ -192,6 +205,7 @@ pub record PapersUnique : Type 0 where
 
 pub record AnswersUnique : Type 0 where
   pub of-sheet : SheetUnique
+  pub of-text : TextUnique
   pub of-tables : TablesUnique
   pub of-rules : RulesUnique
   pub of-door : DoorUnique

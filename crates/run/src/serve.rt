@@ -10,7 +10,8 @@ ghost use Rattle.record.specs.Run.{repliesOf, answerTold, phaseTold, reasonTold
 ghost use Rattle.grammar.specs.Sizes.{limit};
 ghost use Rattle.run_text.specs.Steps.{stepsFrom, rowsIn, mostSteps};
 ghost use Rattle.run_text.specs.Printed.{servedOf};
-use crate::steps::MOST_STEPS;
+use crate::blank::blank_bytes;
+use crate::blank::blank_numbers;
 use crate::steps::decode;
 use record::record::Record;
 use run_text::serve::Served;
@@ -33,9 +34,9 @@ pub(crate) fn serve<'a>(
     ensures phases { λ _. ⌜ now (phases .exit) ≡ sets (now (phases .entry)) 0 (map phaseTold (repliesOf fresh (rowsIn (stepsFrom (now (s .entry)) from)))) ⌝ }
     ensures reasons { λ _. ⌜ now (reasons .exit) ≡ sets (now (reasons .entry)) 0 (map reasonTold (repliesOf fresh (rowsIn (stepsFrom (now (s .entry)) from)))) ⌝ }
 {
-    let mut kinds = [0u8; MOST_STEPS];
-    let mut doors = [0u16; MOST_STEPS];
-    let mut persons = [0u16; MOST_STEPS];
+    let mut kinds = blank_bytes();
+    let mut doors = blank_numbers();
+    let mut persons = blank_numbers();
     let decoded = decode(s, from, &mut kinds, &mut doors, &mut persons);
     let count = decoded.count;
     let ran = fresh.run(

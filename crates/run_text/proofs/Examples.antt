@@ -10,6 +10,7 @@ use Rattle.tables.specs.Below.{orAt, leastBelow, withLocation, locationOf, leas
 use Rattle.tables.specs.Tables.{orElse, andAlso, mayBe}
 use Rattle.tables.specs.Tests.{lacksExit, firstNoExit, strays, firstStray, joins, lacksDoor, firstNoDoor, lacksRight, firstNoRight, letsIn, shutOut, firstShutOut}
 use Rattle.tables.specs.Way.{unlessOutside, wayOut, unvisited, wayOf}
+use Rattle.text.specs.Text.{digits, decimal, rowOfNumbers}
 use Rattle.record.specs.declared.record.Record.{Record}
 use Rattle.record.specs.declared.steps.Step.{Step}
 use Rattle.phases.specs.Phase.{grants}
@@ -35,8 +36,7 @@ use Rattle.site_sheet.proofs.Theorems.{accepted-holds}
 use Rattle.run_text.specs.declared.steps.Heading.{Heading}
 use Rattle.run_text.specs.declared.steps.Heading.the-variants.{Wrong, Rows}
 use Rattle.run_text.specs.Steps.{Steps, placeAmong, kindAt, personAt, stepsLineAt, stepsHeaderAt, headingOf, stepsIn, stepsFrom, rowsIn}
-use Rattle.run_text.specs.Text.{digits, decimal, cellText, rowOfNumbers}
-use Rattle.run_text.specs.Printed.{answerRows, runText, aloneText, ranText, stepsText, panelText, placeRows, placesText, recordText, lastRecord, whereText, fitsIn, printedOf, written}
+use Rattle.run_text.specs.Printed.{answerRows, runText, aloneText, ranText, stepsText, panelText, placeRows, placesText, recordText, lastRecord, whereText}
 use Rattle.run_text.proofs.Sheets.{panel-refused, where-refused, panel-is, where-is}
 use Rattle.run_text.specs.Examples.{siteHeader, siteSheet, stepsSheet, panelTop, whereTop, four, two, panelOf01, badRow, Examples}
 
@@ -127,18 +127,17 @@ panel-ran s e f = panel-here s e ∙ ap (ranText site-of-01) f ∙ sound-ran _
 texts : (soundRan stepsOf01 ≡ panelOf01)
     × (soundRan (record { kinds = 0 ∷ []; doors = 0 ∷ []; persons = 0 ∷ []; whole = false }) ≡ panelTop (four 1 0 1 0 (four 2 2 0 0 [])))
     × (recordText (soundLast site-of-01 (rowsIn stepsOf01)) ≡ whereTop (two 0 1 (two 1 0 [])))
-unfolding soundRan soundReplies soundLast stepsOf01 soundStep firstReason effect act exist allows hasGrant grantOf leastBelow orAt grantsTo grants mayBe andAlso orElse zeros rowsOf kindOf runText answerRows placeRows placesText rowOfNumbers cellText decimal digits
+unfolding soundRan soundReplies soundLast stepsOf01 soundStep firstReason effect act exist allows hasGrant grantOf leastBelow orAt grantsTo grants mayBe andAlso orElse zeros rowsOf kindOf runText answerRows placeRows placesText rowOfNumbers decimal digits
 texts = (refl, refl, refl)
 
 alone : (aloneText 2 ≡ panelTop (four 0 2 0 0 [])) × (aloneText 5 ≡ panelTop (four 0 5 0 0 [])) × (placesText [] ≡ whereTop []) × (recordText site-of-01 ≡ whereTop (two 0 0 (two 1 0 [])))
-unfolding aloneText placeRows placesText rowOfNumbers cellText decimal digits zeros
+unfolding aloneText placeRows placesText rowOfNumbers decimal digits zeros
 alone = (refl, refl, refl, refl)
 
 refused : _≡_ {A = ℕ} 5 0 → ⊥
 refused e = omega arith
 
 pub examples : Examples
-unfolding fitsIn printedOf written
 examples =
     record {
       panel-of-01 = panel-ran stepsSheet (headings .0) (steps .0) ∙ texts .0;
@@ -150,8 +149,4 @@ examples =
       wrong-header-where = where-here [] (headings .2) ∙ alone .3;
       refused-site = sym (panel-refused siteHeader [] (sym (sites .1)) refl refused) ∙ alone .1;
       refused-site-where = sym (where-refused siteHeader [] (sym (sites .1)) refl refused) ∙ alone .2;
-      in-a-longer = (refl, refl);
-      in-its-own = (refl, refl);
-      in-a-shorter = (refl, refl);
-      numbers = (refl, refl);
     }

@@ -1,8 +1,7 @@
--- What is proved of the crate `printed`: `Writing` text in a list, `Decoding` a steps sheet's rows, `Serving` the run of its steps,
--- `Fitting` the two texts in a lent list, `Sheets` which text the two sheets have.
-pub mod Writing
+-- What is proved of the crate: `Decoding` a steps sheet's rows, `Serving` the run of its steps, `Texts` the rows of the two
+-- texts, written one behind the other, `Sheets` which text the two sheets have.
 pub mod Decoding
 pub mod Serving
-pub mod Fitting
+pub mod Texts
 pub mod Sheets
 pub mod Examples

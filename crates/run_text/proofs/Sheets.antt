@@ -1,6 +1,6 @@
 -- The two texts by what the two sheets are: a refused site, a long or wrongly headed steps sheet, a run. Assumes nothing.
 use Prim.Native.Nat.{ℕ, _≤_, _<_}
-use mathlib.Core.Path.{_≡_, refl, sym, ap, subst, _∙_}
+use mathlib.Core.Path.{_≡_, refl, sym, ap, _∙_}
 use mathlib.Core.Bool.{Bool, true, false, cond}
 use mathlib.Core.List.{List, []}
 use native.Mathlib.Omega.{arith}
@@ -24,9 +24,8 @@ use Rattle.site_sheet.specs.Accepted.{AcceptedRecord}
 use Rattle.site_sheet.proofs.Theorems.{accepted-holds}
 use Rattle.run_text.specs.declared.steps.Heading.{Heading}
 use Rattle.run_text.specs.declared.steps.Heading.the-variants as heading
-use Rattle.run_text.specs.declared.text.Printed.{Printed}
 use Rattle.run_text.specs.Steps.{headed, headingOf}
-use Rattle.run_text.specs.Printed.{aloneText, stepsText, panelText, recordText, lastRecord, placesText, whereText, printedOf, written}
+use Rattle.run_text.specs.Printed.{aloneText, stepsText, panelText, recordText, lastRecord, placesText, whereText}
 
 -- only an accepted sheet has the number 0
 pub zero-accepted : (v : Verdict) → verdictNo v ≡ 0 → v ≡ Accepted
@@ -54,11 +53,6 @@ headed-short s {from} e = go (ltb limit (length s)) refl
     go : (q : Bool) → ltb limit (length s) ≡ q → length s ≤ limit
     go true q = let z : heading.TooLong ≡ heading.Rows from = sym (long-told s (ltb-true limit (length s) q)) ∙ e in let n : _≡_ {A = ℕ} 0 1 = cc in absurd (omega arith)
     go false q = ltb-false limit (length s) q
-
--- the same text, said otherwise
-pub text-is : (text other out : List ℕ) {p : Printed} {after : List ℕ} → text ≡ other → (p ≡ printedOf text out) × (after ≡ written text out)
-    → (p ≡ printedOf other out) × (after ≡ written other out)
-text-is text other out {p} {after} e h = subst (λ (t : List ℕ). (p ≡ printedOf t out) × (after ≡ written t out)) e h
 
 module _ (site steps : List ℕ) {read : SiteRead} {n : ℕ} (is : read ≡ siteOf site) (number : n ≡ verdictNo (read .verdict)) where
   number-is : verdictNo (siteOf site .verdict) ≡ n

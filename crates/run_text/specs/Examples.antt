@@ -4,9 +4,8 @@ use Prim.Native.Nat.{ℕ, _+_}
 use mathlib.Core.Path.{_≡_}
 use mathlib.Core.List.{List, [], _∷_, _++_}
 use Rattle.site_sheet.specs.Line.{siteWord, doorWord, exitWord, rightWord, kindHead, aHead, bHead}
-use Rattle.run_text.specs.declared.text.Printed.the-variants.{Text, TooShort}
 use Rattle.run_text.specs.Steps.{cardWord, decideWord, greenWord, redWord, walkWord, passedWord, stepHead, personHead}
-use Rattle.run_text.specs.Printed.{panelText, whereText, printedOf, written, printedNo}
+use Rattle.run_text.specs.Printed.{panelText, whereText}
 
 -- a row in bytes: three fields with commas (44) between, and CRLF (13, 10)
 abbrev pub rowOfBytes : List ℕ → List ℕ → List ℕ → List ℕ
@@ -111,8 +110,3 @@ pub record Examples : Type 0 where
   -- "with a refused site sheet it prints only the header"
   pub refused-site : panelText siteHeader [] ≡ panelTop (four 0 5 0 0 [])
   pub refused-site-where : whereText siteHeader [] ≡ whereTop []
-  -- a text in a list that is longer, in one of its own length, and in one that is too short, which is as it was: 13
-  pub in-a-longer : (printedOf (7 ∷ []) (8 ∷ 9 ∷ []) ≡ Text 1) × (written (7 ∷ []) (8 ∷ 9 ∷ []) ≡ 7 ∷ 9 ∷ [])
-  pub in-its-own : (printedOf (7 ∷ []) (8 ∷ []) ≡ Text 1) × (written (7 ∷ []) (8 ∷ []) ≡ 7 ∷ [])
-  pub in-a-shorter : (printedOf (6 ∷ 7 ∷ []) (8 ∷ []) ≡ TooShort) × (written (6 ∷ 7 ∷ []) (8 ∷ []) ≡ 8 ∷ [])
-  pub numbers : (printedNo (Text 1) ≡ 0) × (printedNo TooShort ≡ 13)

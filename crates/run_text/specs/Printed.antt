@@ -3,8 +3,8 @@ use Prim.Native.Nat.{ℕ, _+_}
 use mathlib.Core.Bool.{Bool, true, false, cond}
 use mathlib.Core.List.{List, [], _∷_, _++_}
 use lib.ListN.{length, take}
-use lib.Seq.{sets}
-use lib.Dec.{leb, eqb}
+use lib.Dec.{eqb}
+use Rattle.text.specs.Text.{rowOfNumbers}
 use Rattle.record.specs.declared.record.Record.{Record}
 use Rattle.record.specs.Run.{Reply, lastOf, repliesOf}
 use Rattle.site_sheet.specs.declared.SiteRead.{SiteRead}
@@ -12,10 +12,7 @@ use Rattle.site_sheet.specs.Site.{siteOf, verdictNo}
 use Rattle.run_text.specs.declared.steps.Heading.{Heading}
 use Rattle.run_text.specs.declared.steps.Heading.the-variants.{TooLong, Wrong, Rows}
 use Rattle.run_text.specs.declared.serve.Served.{Served}
-use Rattle.run_text.specs.declared.text.Printed.{Printed}
-use Rattle.run_text.specs.declared.text.Printed.the-variants.{Text, TooShort}
 use Rattle.run_text.specs.Steps.{Steps, headingOf, stepsFrom, rowsIn}
-use Rattle.run_text.specs.Text.{rowOfNumbers}
 
 -- "the header `row,answer,phase,reason`"
 abbrev pub panelHeader : List ℕ
@@ -105,17 +102,9 @@ siteWhere read steps =
 unfoldable pub whereText : List ℕ → List ℕ → List ℕ
 whereText site steps = siteWhere (siteOf site) steps
 
--- A text in a lent list: told by its length, and standing at the list's front with the rest unaltered; 13 where the list is
--- shorter than the text, with nothing written.
-unfoldable pub fitsIn : List ℕ → List ℕ → Bool
-fitsIn text out = leb (length text) (length out)
+-- Room for every text that `panel` prints, and for every one that `where` prints.
+abbrev pub mostPanelText : ℕ
+mostPanelText = 81920
 
-unfoldable pub printedOf : List ℕ → List ℕ → Printed
-printedOf text out = cond (fitsIn text out) (Text (length text)) TooShort
-
-unfoldable pub written : List ℕ → List ℕ → List ℕ
-written text out = cond (fitsIn text out) (sets out 0 text) out
-
-abbrev pub printedNo : Printed → ℕ
-printedNo (Text n) = 0
-printedNo TooShort = 13
+abbrev pub mostWhereText : ℕ
+mostWhereText = 512

@@ -5,13 +5,13 @@
 // it (13, and no byte of the list is altered) and one that is just long enough (0, and the text). tests/make-vectors makes the
 // sheets, and from the papers' reference what is expected.
 use libc::STDOUT_FILENO;
-use run::text::MOST_PANEL_TEXT;
-use run::text::panel_text;
-use run::text::where_text;
-use run_text::text::Printed;
+use run::texts::panel_text;
+use run::texts::where_text;
+use run_text::blank::blank_panel_text;
 use sheet_files::ROOM;
 use sheet_files::read_sheet;
 use site::read::read_site;
+use text::printed::Printed;
 
 // The longest steps sheet whose texts also go into lists of their own length, and room for those.
 const MOST_SHORT: usize = 1024;
@@ -106,7 +106,7 @@ fn write_text<'a>(text: Text, site: &'a [u8], steps: &'a [u8], out: &'a [u8], le
 }
 
 fn show<'a>(text: Text, site: &'a [u8], steps: &'a [u8]) {
-    let mut out = [0u8; MOST_PANEL_TEXT];
+    let mut out = blank_panel_text();
     if let Printed::Text(length) = text_of(text, site, steps, &mut out) {
         write_text(text, site, steps, &out, length);
     }

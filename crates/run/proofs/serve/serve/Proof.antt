@@ -7,11 +7,20 @@ use lib.Seq.{length-take-le}
 use Rattle.record.specs.Run.{answerTold, phaseTold, reasonTold}
 use Rattle.grammar.specs.Rows.{rowsFrom}
 use Rattle.run_text.specs.declared.steps.Decoded.{Decoded}
-use Rattle.run_text.specs.Steps.{stepsFrom}
+use Rattle.run_text.specs.Steps.{stepsFrom, mostSteps}
 use Rattle.run_text.proofs.Serving.{steps-even, decoded-are, ran-steps, told-steps}
 use borrow.Author.Needs.{needs}
 use Rattle.run.proofs.serve.serve.Statement.{statement}
 use Rattle.run.proofs.serve.serve.Tie as tie
+
+blank-bytes-requires : tie.Need-blank-bytes-requires
+blank-bytes-requires c κs = search needs
+
+blank-numbers-requires : tie.Need-blank-numbers-requires
+blank-numbers-requires c κs = search needs
+
+blank-numbers-requires-2 : tie.Need-blank-numbers-requires-2
+blank-numbers-requires-2 c κs = search needs
 
 slice-aggregate-decode : tie.Need-slice-aggregate-decode
 slice-aggregate-decode c = search needs
@@ -31,7 +40,7 @@ array-share-prefix-kinds c = search needs
 slice-aggregate-run : tie.Need-slice-aggregate-run
 slice-aggregate-run c =
     let few = c .before .before .before .before .decode .ensures .1 .0 in
-    let long : 6144 ≡ length (c .before .before .before .before .decode .last .1 .1 .0) = search needs in
+    let long : mostSteps ≡ length (c .before .before .before .before .decode .last .1 .1 .0) = search needs in
     sym (length-take-le _ _ (omega arith))
 
 array-share-prefix-doors : tie.Need-array-share-prefix-doors
@@ -40,7 +49,7 @@ array-share-prefix-doors c = search needs
 slice-aggregate-run-2 : tie.Need-slice-aggregate-run-2
 slice-aggregate-run-2 c =
     let few = c .before .before .before .before .before .decode .ensures .1 .0 in
-    let long : 6144 ≡ length (c .before .before .before .before .before .decode .last .1 .1 .1 .0) = search needs in
+    let long : mostSteps ≡ length (c .before .before .before .before .before .decode .last .1 .1 .1 .0) = search needs in
     sym (length-take-le _ _ (omega arith))
 
 array-share-prefix-persons : tie.Need-array-share-prefix-persons
@@ -49,7 +58,7 @@ array-share-prefix-persons c = search needs
 slice-aggregate-run-3 : tie.Need-slice-aggregate-run-3
 slice-aggregate-run-3 c =
     let few = c .before .before .before .before .before .before .decode .ensures .1 .0 in
-    let long : 6144 ≡ length (c .before .before .before .before .before .before .decode .last .1 .1 .1 .1 .0) = search needs in
+    let long : mostSteps ≡ length (c .before .before .before .before .before .before .decode .last .1 .1 .1 .1 .0) = search needs in
     sym (length-take-le _ _ (omega arith))
 
 run-requires : tie.Need-run-requires
@@ -66,15 +75,18 @@ same-length-3 c = search needs
 
 returns : tie.Need-returns
 returns c =
-    let a = c .before .before .before .before .before .before .before .before .before .before .before .before .before .before .before .before .before .before .before .before .before .before .before .before .before .args in
-    let p = c .before .before .before .before .before .before .before .before .before .before .before .before .before .before .before .before .before .before .before .before .before .before .before .before .before .pre in
+    let a = c .before .before .before .before .before .before .before .before .before .before .before .before .before .before .before .before .before .before .before .before .before .before .before .before .before .before .before .before .args in
+    let p = c .before .before .before .before .before .before .before .before .before .before .before .before .before .before .before .before .before .before .before .before .before .before .before .before .before .before .before .before .pre in
     let steps = stepsFrom (a .s .now) (a .from) in
     let even = steps-even (a .s .now) (rowsFrom (a .s .now) (a .from)) in
     let d = c .before .before .before .before .before .before .before .before .before .before .before .before .before .before .before .before .before .decode .ensures in
     let few = d .1 .0 in
     let count : c .before .before .before .before .before .before .before .before .before .before .before .before .before .before .before .before .before .decode .result .count ≡ length (steps .kinds) = ap (λ (x : Decoded). x .count) (d .0) in
     let whole : c .before .before .before .before .before .before .before .before .before .before .before .before .before .before .before .before .before .decode .result .whole ≡ steps .whole = ap (λ (x : Decoded). x .whole) (d .0) in
-    let lists = decoded-are steps _ _ _ even (d .0) few few few (d .1 .1 .0) (d .1 .1 .1 .0) (d .1 .1 .1 .1) in
+    let kinds = c .before .before .before .before .before .before .before .before .before .before .before .before .before .before .before .before .before .before .before .before .before .before .before .blank-bytes in
+    let doors = c .before .before .before .before .before .before .before .before .before .before .before .before .before .before .before .before .before .before .before .before .before .before .blank-numbers in
+    let persons = c .before .before .before .before .before .before .before .before .before .before .before .before .before .before .before .before .before .before .before .before .before .blank-numbers2 in
+    let lists = decoded-are steps (kinds .result) (doors .result) (persons .result) even (d .0) (omega (arith, kinds .ensures)) (omega (arith, doors .ensures)) (omega (arith, persons .ensures)) (d .1 .1 .0) (d .1 .1 .1 .0) (d .1 .1 .1 .1) in
     let ha : length (steps .kinds) ≤ length (a .answers .now) = omega (arith, p .1 .1 .0) in
     let hp : length (steps .kinds) ≤ length (a .phases .now) = omega (arith, p .1 .1 .1) in
     let hr : length (steps .kinds) ≤ length (a .reasons .now) = omega (arith, p .1 .1 .2) in
@@ -97,6 +109,9 @@ pub serve-spec : {M : Type 1} → statement M
 serve-spec =
     tie.close
     (tie.spec
+    blank-bytes-requires
+    blank-numbers-requires
+    blank-numbers-requires-2
     slice-aggregate-decode
     slice-aggregate-decode-2
     slice-aggregate-decode-3

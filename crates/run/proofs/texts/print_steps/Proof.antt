@@ -1,0 +1,115 @@
+-- `print_steps` meets its contract: the steps are run, and their answers printed. Assumes nothing.
+use mathlib.Core.Path.{_≡_, sym, ap, _∙_}
+use mathlib.Core.List.{map}
+use native.Mathlib.Omega.{arith}
+use lib.ListN.{length, take}
+use lib.Seq.{length-take-le}
+use Rattle.grammar.specs.Rows.{rowsFrom}
+use Rattle.record.specs.Run.{repliesOf, answerTold, phaseTold, reasonTold}
+use Rattle.run_text.specs.declared.serve.Served.{Served}
+use Rattle.run_text.specs.Steps.{stepsFrom, rowsIn, mostSteps}
+use Rattle.run_text.proofs.Serving.{steps-even, steps-told, front-of, parts-back}
+use borrow.Author.Needs.{needs}
+use Rattle.run.proofs.texts.print_steps.Statement.{statement}
+use Rattle.run.proofs.texts.print_steps.Tie as tie
+
+blank-bytes-requires : tie.Need-blank-bytes-requires
+blank-bytes-requires c κs = search needs
+
+blank-bytes-requires-2 : tie.Need-blank-bytes-requires-2
+blank-bytes-requires-2 c κs = search needs
+
+blank-bytes-requires-3 : tie.Need-blank-bytes-requires-3
+blank-bytes-requires-3 c κs = search needs
+
+slice-aggregate-serve : tie.Need-slice-aggregate-serve
+slice-aggregate-serve c = search needs
+
+slice-aggregate-serve-2 : tie.Need-slice-aggregate-serve-2
+slice-aggregate-serve-2 c = search needs
+
+slice-aggregate-serve-3 : tie.Need-slice-aggregate-serve-3
+slice-aggregate-serve-3 c = search needs
+
+serve-requires : tie.Need-serve-requires
+serve-requires c κs = let p = c .before .before .before .before .before .before .before .before .pre in (p .0, (p .1, (omega arith, omega arith, omega arith)))
+
+array-share-prefix-answers : tie.Need-array-share-prefix-answers
+array-share-prefix-answers c = search needs
+
+slice-aggregate-print-run : tie.Need-slice-aggregate-print-run
+slice-aggregate-print-run c =
+    let few = c .before .before .before .before .serve .ensures .1 .0 in
+    let long : mostSteps ≡ length (c .before .before .before .before .serve .last .1 .1 .1 .0) = search needs in
+    sym (length-take-le _ _ (omega arith))
+
+array-share-prefix-phases : tie.Need-array-share-prefix-phases
+array-share-prefix-phases c = search needs
+
+slice-aggregate-print-run-2 : tie.Need-slice-aggregate-print-run-2
+slice-aggregate-print-run-2 c =
+    let few = c .before .before .before .before .before .serve .ensures .1 .0 in
+    let long : mostSteps ≡ length (c .before .before .before .before .before .serve .last .1 .1 .1 .1 .0) = search needs in
+    sym (length-take-le _ _ (omega arith))
+
+array-share-prefix-reasons : tie.Need-array-share-prefix-reasons
+array-share-prefix-reasons c = search needs
+
+slice-aggregate-print-run-3 : tie.Need-slice-aggregate-print-run-3
+slice-aggregate-print-run-3 c =
+    let few = c .before .before .before .before .before .before .serve .ensures .1 .0 in
+    let long : mostSteps ≡ length (c .before .before .before .before .before .before .serve .last .1 .1 .1 .1 .1 .0) = search needs in
+    sym (length-take-le _ _ (omega arith))
+
+print-run-requires : tie.Need-print-run-requires
+print-run-requires c κs =
+    let few = c .before .before .before .before .before .before .before .serve .ensures .1 .0 in
+    let count = c .before .before .before .before .before .before .before .serve .result .count in
+    let la : mostSteps ≡ length (c .before .before .before .before .before .before .before .serve .last .1 .1 .1 .0) = search needs in
+    let lp : mostSteps ≡ length (c .before .before .before .before .before .before .before .serve .last .1 .1 .1 .1 .0) = search needs in
+    let lr : mostSteps ≡ length (c .before .before .before .before .before .before .before .serve .last .1 .1 .1 .1 .1 .0) = search needs in
+    let a = length-take-le count (c .before .before .before .before .before .before .before .serve .last .1 .1 .1 .0) (omega arith) in
+    let p = length-take-le count (c .before .before .before .before .before .before .before .serve .last .1 .1 .1 .1 .0) (omega arith) in
+    let r = length-take-le count (c .before .before .before .before .before .before .before .serve .last .1 .1 .1 .1 .1 .0) (omega arith) in
+    (p ∙ sym a, r ∙ sym a)
+
+same-length : tie.Need-same-length
+same-length c = search needs
+
+returns : tie.Need-returns
+returns c =
+    let a = c .before .before .before .before .before .before .before .before .before .before .before .before .before .before .before .before .before .before .before .args in
+    let s = c .before .before .before .before .before .before .before .before .before .before .serve in
+    let steps = stepsFrom (a .s .now) (a .from) in
+    let even = steps-even (a .s .now) (rowsFrom (a .s .now) (a .from)) in
+    let few = s .ensures .1 .0 in
+    let in-answers = c .before .before .before .before .before .before .before .before .before .before .before .before .before .before .before .before .blank-bytes in
+    let in-phases = c .before .before .before .before .before .before .before .before .before .before .before .before .before .before .before .blank-bytes2 in
+    let in-reasons = c .before .before .before .before .before .before .before .before .before .before .before .before .before .before .blank-bytes3 in
+    let count : s .result .count ≡ length (steps .kinds) = ap (λ (x : Served). x .count) (s .ensures .0) in
+    let whole : s .result .whole ≡ steps .whole = ap (λ (x : Served). x .whole) (s .ensures .0) in
+    let answers : take (s .result .count) (s .last .1 .1 .1 .0) ≡ map answerTold (repliesOf (a .fresh) (rowsIn steps)) = front-of _ (in-answers .result) (count ∙ sym (steps-told answerTold (a .fresh) even)) (omega (arith, in-answers .ensures)) (s .ensures .1 .1 .0) in
+    let phases : take (s .result .count) (s .last .1 .1 .1 .1 .0) ≡ map phaseTold (repliesOf (a .fresh) (rowsIn steps)) = front-of _ (in-phases .result) (count ∙ sym (steps-told phaseTold (a .fresh) even)) (omega (arith, in-phases .ensures)) (s .ensures .1 .1 .1 .0) in
+    let reasons : take (s .result .count) (s .last .1 .1 .1 .1 .1 .0) ≡ map reasonTold (repliesOf (a .fresh) (rowsIn steps)) = front-of _ (in-reasons .result) (count ∙ sym (steps-told reasonTold (a .fresh) even)) (omega (arith, in-reasons .ensures)) (s .ensures .1 .1 .1 .1) in
+    rw (answers, phases, reasons, whole, parts-back (repliesOf (a .fresh) (rowsIn steps))) at (c .before .before .print-run .ensures)
+
+pub print-steps-spec : {M : Type 1} → statement M
+print-steps-spec =
+    tie.close
+    (tie.spec
+    blank-bytes-requires
+    blank-bytes-requires-2
+    blank-bytes-requires-3
+    slice-aggregate-serve
+    slice-aggregate-serve-2
+    slice-aggregate-serve-3
+    serve-requires
+    array-share-prefix-answers
+    slice-aggregate-print-run
+    array-share-prefix-phases
+    slice-aggregate-print-run-2
+    array-share-prefix-reasons
+    slice-aggregate-print-run-3
+    print-run-requires
+    same-length
+    returns)

@@ -1,0 +1,24 @@
+// Lists of zeros, for the two texts.
+ghost use mathlib.Core.Path.{_≡_};
+ghost use lib.ListN.{replicate};
+ghost use Rattle.run_text.specs.Printed.{mostPanelText, mostWhereText};
+
+// Room for every text that `panel` prints, and for every one that `where` prints: `panel-fits` and `where-fits` of
+// crates/demands/specs/DemandOne.antt say so.
+pub const MOST_PANEL_TEXT: usize = 81920;
+
+pub const MOST_WHERE_TEXT: usize = 512;
+
+// A list for a text of `panel`.
+pub fn blank_panel_text() -> [u8; MOST_PANEL_TEXT]
+    ensures { λ r. ⌜ r ≡ replicate mostPanelText 0 ⌝ }
+{
+    [0; MOST_PANEL_TEXT]
+}
+
+// A list for a text of `where`.
+pub fn blank_where_text() -> [u8; MOST_WHERE_TEXT]
+    ensures { λ r. ⌜ r ≡ replicate mostWhereText 0 ⌝ }
+{
+    [0; MOST_WHERE_TEXT]
+}

@@ -1,0 +1,44 @@
+-- A text is measured by writing it into no bytes, and written where it fits: `measured` is the law of every function that prints.
+-- Assumes nothing.
+use Prim.Native.Nat.{ℕ, _≤_, _<_}
+use mathlib.Core.Path.{_≡_, sym, ap, subst, _∙_}
+use mathlib.Core.List.{List, [], _++_}
+use native.Mathlib.Omega.{arith}
+use borrow.Author.Tests.{le-leb, lt-leb}
+use lib.ListN.{length}
+use lib.Seq.{sets}
+use Rattle.text.specs.declared.printed.Printed.{Printed}
+use Rattle.text.specs.declared.printed.Printed.the-variants.{Text, TooShort}
+use Rattle.text.specs.Wrote.{lastPlace, behind, Wrote}
+use Rattle.text.specs.Printed.{fitsIn, printedOf, written, Prints}
+use Rattle.text.proofs.Writing.{sets-past}
+
+-- what is told and what the list holds, by whether the text fits
+prints-short : {text out : List ℕ} → length out < length text → Prints text out TooShort out
+unfolding fitsIn printedOf written
+prints-short {text} {out} h = let e = lt-leb (length text) (length out) h in record { answer = rw e; list = rw e }
+
+prints-long : {text out after : List ℕ} {end : ℕ} → length text ≤ length out → end ≡ length text → after ≡ sets out 0 text → Prints text out (Text end) after
+unfolding fitsIn printedOf written
+prints-long {text} {out} h e a = let f = le-leb (length text) (length out) h in record { answer = rw (f, e); list = rw f a }
+
+-- a text that was measured: 13 and nothing written where the list is shorter, else it is written
+pub record Measured (text out whole : List ℕ) (size : ℕ) : Type 0 where
+  pub short : length whole < size → Prints text out TooShort whole
+  pub long : {after : List ℕ} {end : ℕ} → size ≤ length whole → Wrote whole 0 text after end → length whole < lastPlace → Prints text out (Text end) after
+
+-- `front` is the part of the list, no bytes long, into which the text was written to measure it
+pub measured : {text front out : List ℕ} {size : ℕ} → Wrote [] 0 text front size → Measured text out (front ++ out) size
+unfolding behind
+measured {text} {front} {out} {size} w =
+    let e : front ++ out ≡ out = ap (λ (f : List ℕ). f ++ out) (w .list ∙ sets-past [] 0 text (omega arith)) in
+    let p : size ≡ behind 0 (length text) = w .place in
+    let same : length (front ++ out) ≡ length out = ap length e in
+    record {
+      short = λ h. subst (λ (l : List ℕ). Prints text out TooShort l) (sym e) (prints-short (omega arith));
+      long = λ {after} {end} h v most. let q : end ≡ behind 0 (length text) = v .place in prints-long (omega arith) (omega arith) (rw e at (v .list));
+    }
+
+-- the same text, said otherwise
+pub text-is : (text other out : List ℕ) {p : Printed} {after : List ℕ} → text ≡ other → Prints text out p after → Prints other out p after
+text-is text other out {p} {after} e h = subst (λ (t : List ℕ). Prints t out p after) e h
