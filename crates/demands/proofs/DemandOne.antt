@@ -21,7 +21,6 @@ use Rattle.grammar.specs.declared.say.Number.the-variants.{Is, None}
 use Rattle.grammar.specs.Grammar.{Field, bare, quoted, fieldText, comma, cr, lf}
 use Rattle.grammar.specs.Cut.{emptyAt, cutField, cutRow}
 use Rattle.grammar.specs.Where.{cellOf, CellHolds}
-use Rattle.grammar.specs.Past.{past, pastRow}
 use Rattle.grammar.specs.Rows.{onRow, readRows, rowsFrom, countFrom, countRows}
 use Rattle.grammar.specs.Say.{valueFrom, ProperNumber, contentAt, sameBytes, isWord, saysWords, numberAt}
 use Rattle.grammar.specs.Say as say
@@ -202,23 +201,15 @@ words-told s cells x y z = go (eqb (cells .count) 3) refl (isWord s (cells .firs
     go true p false q c r e = absurd (false≢true e)
     go false p b q c r e = absurd (false≢true e)
 
--- a reader moves on within its sheet, or stays
-past-within : (s : List ℕ) (at : ℕ) → at ≤ length s → (cut : RowCut) → cutRow s at ≡ cut → Within s at (past cut at)
-unfolding past
-past-within s at h (Cut cells next) e = let w = cut-there s at e in record { from = omega arith; to = w .1 }
-past-within s at h NoRow e = record { from = omega arith; to = h }
-past-within s at h (Broken byte) e = record { from = omega arith; to = h }
-
 pub of-sheet : SheetAnswers
 of-sheet =
     record {
       cut-field = field-told;
       cut-row = λ s at. row-told s at (cutRow s at) refl;
       count-rows = count-told;
-      reader-new = λ sheet. refl;
+      reader-at-byte = λ sheet at. (refl, refl);
       reader-row = λ reader. row-told (now (reader .sheet)) (reader .at) _ refl;
-      reader-past-row = λ reader h. past-within (now (reader .sheet)) (reader .at) h (cutRow (now (reader .sheet)) (reader .at)) refl;
-      first-data-row = λ s. row-told s (pastRow s 0) _ refl;
+      row-at = λ s at. row-told s at (cutRow s at) refl;
       is-word = word-told;
       says-words = words-told;
       number-of = number-small;

@@ -22,8 +22,7 @@ use Rattle.grammar.specs.declared.count.RowsCounted.the-variants.{All, UpTo}
 use Rattle.grammar.specs.declared.say.Number.the-variants.{Is}
 use Rattle.grammar.specs.Cut.{cutField, cutRow}
 use Rattle.grammar.specs.Rows.{countRows}
-use Rattle.grammar.specs.Past.{pastRow, firstDataRow}
-use Rattle.sheet.specs.Reader.{readerAt, movedOn}
+use Rattle.sheet.specs.Reader.{readerAt}
 use Rattle.grammar.specs.Say.{contentAt, isWord, saysWords, numberAt}
 use Rattle.text.specs.declared.printed.Printed.{Printed}
 use Rattle.text.specs.declared.printed.Printed.the-variants.{Text}
@@ -107,11 +106,10 @@ pub record SheetAnswers : Type 0 where
   pub cut-field : (s : List ℕ) (at : ℕ) → at ≤ length s → FieldTold s at (cutField s at)
   pub cut-row : (s : List ℕ) (at : ℕ) → RowTold s at (cutRow s at)
   pub count-rows : (s : List ℕ) → CountTold s (countRows s)
-  -- a reader begins at the first byte, tells the row at its place, and moves on within its sheet or stays
-  pub reader-new : (sheet : RefT (List ℕ)) → readerAt sheet 0 .at ≡ 0
+  -- "a reader holds the sheet and the byte it has come to", and tells the row there
+  pub reader-at-byte : (sheet : RefT (List ℕ)) (at : ℕ) → (readerAt sheet at .sheet ≡ sheet) × (readerAt sheet at .at ≡ at)
   pub reader-row : (reader : Reader) → RowTold (now (reader .sheet)) (reader .at) (cutRow (now (reader .sheet)) (reader .at))
-  pub reader-past-row : (reader : Reader) → reader .at ≤ length (now (reader .sheet)) → Within (now (reader .sheet)) (reader .at) (movedOn reader .at)
-  pub first-data-row : (s : List ℕ) → RowTold s (pastRow s 0) (firstDataRow s)
+  pub row-at : (s : List ℕ) (at : ℕ) → RowTold s at (cutRow s at)
   -- a cell that is a word has its bytes
   pub is-word : (s : List ℕ) (cell : Cell) (word : List ℕ) → isWord s cell word ≡ true → contentAt s cell ≡ word
   -- a row that says three words has three cells, which have their bytes

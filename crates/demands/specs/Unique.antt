@@ -17,8 +17,7 @@ use Rattle.grammar.specs.declared.count.RowsCounted.{RowsCounted}
 use Rattle.grammar.specs.declared.say.Number.{Number}
 use Rattle.grammar.specs.Cut.{cutField, cutRow}
 use Rattle.grammar.specs.Rows.{countRows}
-use Rattle.grammar.specs.Past.{firstDataRow}
-use Rattle.sheet.specs.Reader.{readerAt, movedOn}
+use Rattle.sheet.specs.Reader.{readerAt}
 use Rattle.grammar.specs.Say.{isWord, saysWords, numberAt}
 use Rattle.grammar.specs.Sizes.{limit}
 use Rattle.text.specs.declared.printed.Printed.{Printed}
@@ -75,10 +74,9 @@ pub record SheetUnique : Type 0 where
   pub cut-field : (s : List ℕ) (at : ℕ) → Unique (λ (x : FieldCut). x ≡ cutField s at)
   pub cut-row : (s : List ℕ) (at : ℕ) → Unique (λ (x : RowCut). x ≡ cutRow s at)
   pub count-rows : (s : List ℕ) → Unique (λ (x : RowsCounted). x ≡ countRows s)
-  pub reader-new : (sheet : RefT (List ℕ)) → Unique (λ (x : Reader). x ≡ readerAt sheet 0)
+  pub reader-at-byte : (sheet : RefT (List ℕ)) (at : ℕ) → Unique (λ (x : Reader). x ≡ readerAt sheet at)
   pub reader-row : (reader : Reader) → Unique (λ (x : RowCut). x ≡ cutRow (now (reader .sheet)) (reader .at))
-  pub reader-past-row : (reader : Reader) → Unique (λ (x : Reader). x ≡ movedOn reader)
-  pub first-data-row : (s : List ℕ) → Unique (λ (x : RowCut). x ≡ firstDataRow s)
+  pub row-at : (s : List ℕ) (at : ℕ) → Unique (λ (x : RowCut). x ≡ cutRow s at)
   pub is-word : (s : List ℕ) (cell : Cell) (word : List ℕ) → Unique (λ (x : Bool). x ≡ isWord s cell word)
   pub says-words : (s : List ℕ) (cells : Cells) (x y z : List ℕ) → Unique (λ (b : Bool). b ≡ saysWords s cells x y z)
   pub number-of : (s : List ℕ) (cell : Cell) → Unique (λ (x : Number). x ≡ numberAt s cell)

@@ -10,12 +10,15 @@ use Rattle.phases.specs.Phase.{closed, free, keeps, leastCount, mostCount}
 unfoldable pub holderFits : ℕ → ℕ → ℕ → Bool
 holderFits people phase holder = cond (keeps phase) (ltb holder people) (eqb holder 0)
 
+-- a countdown lies between the bounds of its phase
+abbrev pub countFits : ℕ → ℕ → Bool
+countFits phase count = andAlso (leb (leastCount phase) count) (leb count (mostCount phase))
+
 -- a door's fields fit its phase
 unfoldable pub fieldsFit : ℕ → Door → Bool
 fieldsFit people c =
     andAlso (leb (c .phase) closed)
-    (andAlso (holderFits people (c .phase) (c .holder))
-    (andAlso (leb (leastCount (c .phase)) (c .count)) (leb (c .count) (mostCount (c .phase)))))
+    (andAlso (holderFits people (c .phase) (c .holder)) (countFits (c .phase) (c .count)))
 
 -- a door is free
 unfoldable pub isFree : Door → Bool

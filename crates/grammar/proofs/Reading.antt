@@ -13,7 +13,6 @@ use Rattle.grammar.specs.declared.cut.RowCut.{RowCut}
 use Rattle.grammar.specs.declared.cut.RowCut.the-variants.{Cut, NoRow, Broken}
 use Rattle.grammar.specs.Cut.{cutRow}
 use Rattle.grammar.specs.Rows.{Rows, row, onRow, readRows, rowsFrom, countFrom, countRows}
-use Rattle.grammar.specs.Past.{past, pastRow, firstDataRow}
 use Rattle.grammar.proofs.Steps.{cut-within}
 
 -- behind the sheet there is no row
@@ -55,19 +54,6 @@ module _ (s : List ℕ) where
   rows-next at =
       same-behind at (cutRow s at) (λ next. readRows (length s - at) s next) (λ next. readRows (suc (length s - next)) s next) refl
       (λ next l w. enough (length s - at) (suc (length s - next)) next (omega arith) (omega arith))
-
-  -- the same by the place past the row
-  past-behind : (at : ℕ) (cut : RowCut) → onRow cut (rowsFrom s) ≡ onRow cut (λ _. rowsFrom s (past cut at))
-  unfolding past
-  past-behind at (Cut cells next) = refl
-  past-behind at NoRow = refl
-  past-behind at (Broken byte) = refl
-
-  pub rows-past : (at : ℕ) → rowsFrom s at ≡ onRow (cutRow s at) (λ _. rowsFrom s (pastRow s at))
-  rows-past at = rows-next at ∙ past-behind at (cutRow s at)
-
-  pub rows-second : {cells : Cells} {next : ℕ} → cutRow s 0 ≡ Cut cells next → rowsFrom s 0 ≡ row cells (onRow (firstDataRow s) (rowsFrom s))
-  rows-second {cells} e = rows-past 0 ∙ (ap (λ (c : RowCut). onRow c (λ _. rowsFrom s (pastRow s 0))) e ∙ ap (row cells) (rows-next (pastRow s 0)))
 
 -- the loop over the rows of a sheet: the answer from here on is the answer from the start
 pub record CountSoFar (s : List ℕ) (rows at : ℕ) : Type 0 where

@@ -11,7 +11,6 @@ use Rattle.grammar.specs.declared.cut.Cell.{Cell}
 use Rattle.grammar.specs.declared.cut.Cells.{Cells}
 use Rattle.grammar.specs.declared.cut.Mode.the-variants.{Fresh}
 use Rattle.grammar.specs.declared.cut.FieldCut.the-variants.{Next, Last}
-use Rattle.grammar.specs.declared.cut.RowCut.{RowCut}
 use Rattle.grammar.specs.declared.cut.RowCut.the-variants.{Cut, NoRow, Broken}
 use Rattle.grammar.specs.declared.say.Number.the-variants.{Is}
 use Rattle.grammar.specs.declared.count.RowsCounted.the-variants.{All, UpTo}
@@ -19,8 +18,7 @@ use Rattle.grammar.specs.Grammar.{comma, cr, lf, Field, content, Written
 use Rattle.grammar.specs.Say.{ProperNumber, isWord, saysWords, numberAt}
 use Rattle.grammar.specs.Cut.{emptyAt, noCells, fieldFrom, cutField, cutRow}
 use Rattle.grammar.specs.Where.{holdsQuote, cellOf, cellsOf, CellHolds, RowHolds}
-use Rattle.grammar.specs.Rows.{row, onRow, rowsFrom, countRows}
-use Rattle.grammar.specs.Past.{past, pastRow, firstDataRow}
+use Rattle.grammar.specs.Rows.{onRow, rowsFrom, countRows}
 use Rattle.grammar.specs.Meaning.{CutRow, SheetOf, BrokenAfter, FirstFault, Threefold}
 use Rattle.grammar.proofs.Written as written
 use Rattle.grammar.proofs.Found as found
@@ -48,24 +46,10 @@ module _ (s : List ℕ) (at : ℕ) where
   pub fault-is-first : {byte : ℕ} (rs : List Row) → BeginsWith s rs (drop at s) → cutRow s at ≡ Broken byte → FirstFault s rs byte
   fault-is-first {byte} rs l e = whole.fault-first s at byte rs l e
 
-  -- A reader goes over the rows in their order: what is read from its place on is the row there, and then what is read from the
-  -- place past it.
-  pub reader-goes-on : rowsFrom s at ≡ onRow (cutRow s at) (λ _. rowsFrom s (pastRow s at))
-  reader-goes-on = reading.rows-past s at
-
-  -- At a row that is broken, and where there is none, it stays.
-  pub reader-stays-at-fault : {byte : ℕ} → cutRow s at ≡ Broken byte → pastRow s at ≡ at
-  unfolding past
-  reader-stays-at-fault e = ap (λ (c : RowCut). past c at) e
-
-  pub reader-stays-at-end : cutRow s at ≡ NoRow → pastRow s at ≡ at
-  unfolding past
-  reader-stays-at-end e = ap (λ (c : RowCut). past c at) e
-
--- Behind a header that is a row, a sheet's rows go on with the first data row.
-pub data-behind-header : (s : List ℕ) {cells : Cells} {next : ℕ} → cutRow s 0 ≡ Cut cells next
-    → rowsFrom s 0 ≡ row cells (onRow (firstDataRow s) (rowsFrom s))
-data-behind-header s e = reading.rows-second s e
+  -- A reader goes over the rows in their order: what is read from a position on is the row there, and then what is read from
+  -- behind it.
+  pub reader-goes-on : rowsFrom s at ≡ onRow (cutRow s at) (rowsFrom s)
+  reader-goes-on = reading.rows-next s at
 
 -- Every row that the grammar can write is cut back to itself, with or without the CRLF behind it.
 pub round-trip : (r : Row) (rest : List ℕ) → WrittenRow r → cutRow (rowText r ++ (cr ∷ lf ∷ rest)) 0 ≡ Cut (cellsOf noCells 0 r) (length (rowText r ++ (cr ∷ lf ∷ rest)) - length rest)

@@ -13,7 +13,7 @@ use run_text::steps::Decoded;
 use run_text::steps::Heading;
 use run_text::steps::StepsLine;
 use sheet::LIMIT;
-use sheet::cut::cut_row;
+use sheet::reader::row_at;
 use sheet::say::is_word;
 use sheet::say::number_of;
 use sheet::say::says_words;
@@ -135,7 +135,7 @@ pub fn heading_of(s: &[u8]) -> Heading
     if LIMIT < s.len() {
         return Heading::TooLong;
     }
-    match cut_row(s, 0) {
+    match row_at(s, 0) {
         RowCut::Cut(cells, next) => {
             if !is_header(s, cells) {
                 return Heading::Wrong;
@@ -166,7 +166,7 @@ pub(crate) fn decode<'a>(
     let mut count: usize = 0;
     let mut at = from;
     loop {
-        match cut_row(s, at) {
+        match row_at(s, at) {
             RowCut::Cut(cells, next) => {
                 let StepsLine::Step(kind, door, person) = line_of(s, cells) else {
                     return Decoded {

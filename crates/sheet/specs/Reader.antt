@@ -1,13 +1,8 @@
--- A reader at a place of its sheet, and where it stands once it has moved past a row.
+-- A reader at a place of its sheet: "a reader holds the sheet and the byte it has come to" (01, "Site sheet").
 use Prim.Native.Nat.{ℕ}
 use mathlib.Core.List.{List}
-use denote.Ref.{RefT, now}
-use Rattle.grammar.specs.Past.{pastRow}
+use denote.Ref.{RefT}
 use Rattle.sheet.specs.declared.reader.Reader.{Reader}
 
 abbrev pub readerAt : RefT (List ℕ) → ℕ → Reader
 readerAt sheet at = record { sheet = sheet; at = at }
-
--- the reader with the same sheet, past the row that it has come to
-abbrev pub movedOn : Reader → Reader
-movedOn r = readerAt (r .sheet) (pastRow (now (r .sheet)) (r .at))

@@ -1,7 +1,7 @@
 // A whole sheet: its rows, counted up to the first one that is broken.
 ghost use mathlib.Core.Path.{_≡_};
 ghost use Rattle.grammar.specs.Rows.{countRows};
-use crate::cut::cut_row;
+use crate::reader::row_at;
 use grammar::count::RowsCounted;
 use grammar::cut::RowCut;
 
@@ -11,7 +11,7 @@ pub fn count_rows(s: &[u8]) -> RowsCounted
     let mut rows: usize = 0;
     let mut at: usize = 0;
     loop {
-        match cut_row(s, at) {
+        match row_at(s, at) {
             RowCut::Cut(_, next) => {
                 rows += 1;
                 at = next;

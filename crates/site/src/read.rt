@@ -11,7 +11,7 @@ use crate::take;
 use grammar::cut::RowCut;
 use record::record::Record;
 use sheet::LIMIT;
-use sheet::cut::cut_row;
+use sheet::reader::row_at;
 use site_sheet::Counts;
 use site_sheet::Draft;
 use site_sheet::Fault;
@@ -78,7 +78,7 @@ fn take_rows<'s, 'a>(
     let mut at = from;
     let mut row: usize = 1;
     loop {
-        match cut_row(s, at) {
+        match row_at(s, at) {
             RowCut::Cut(cells, next) => {
                 let line = line_of(s, cells);
                 let told = take(counts, line, origin, destination, exit, given, right);
@@ -252,7 +252,7 @@ pub fn read_site(s: &[u8]) -> SiteRead
     if LIMIT < s.len() {
         return refused(Verdict::TooLong);
     }
-    match cut_row(s, 0) {
+    match row_at(s, 0) {
         RowCut::Cut(cells, next) => {
             if !is_header(s, cells) {
                 return refused(Verdict::BadRow(0));

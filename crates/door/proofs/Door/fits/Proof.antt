@@ -21,31 +21,13 @@ unfolding fieldsFit andAlso
 returns-2 c =
     simp (le-leb _ _ (c .before .before .before .if1 .left), ← (c .before .holder-fits .ensures), not-true (c .before .holder-fits .result) (c .if2 .taken))
 
-least-count-requires : tie.Need-least-count-requires
-least-count-requires c κs = search needs
+count-fits-requires : tie.Need-count-fits-requires
+count-fits-requires c κs = search needs
 
 returns-3 : tie.Need-returns-3
 unfolding fieldsFit andAlso
 returns-3 c =
-    simp (le-leb _ _ (c .before .before .before .before .before .if1 .left), ← (c .before .before .before .holder-fits .ensures), not-false (c .before .before .before .holder-fits .result) (c .before .before .if2 .left), ← (c .before .least-count .ensures), lt-leb _ _ (c .if3 .taken))
-
-most-count-requires : tie.Need-most-count-requires
-most-count-requires c κs = search needs
-
-returns-4 : tie.Need-returns-4
-unfolding fieldsFit andAlso
-returns-4 c =
-    simp (le-leb _ _ (c .before .before .before .before .before .before .if1 .left), ← (c .before .before .before .before .holder-fits .ensures), not-false (c .before .before .before .before .holder-fits .result) (c .before .before .before .if2 .left), ← (c .before .before .least-count .ensures), le-leb _ _ (c .before .if3 .left), c .most-count .ensures)
+    simp (le-leb _ _ (c .before .before .before .before .if1 .left), ← (c .before .before .holder-fits .ensures), not-false (c .before .before .holder-fits .result) (c .before .if2 .left), c .count-fits .ensures)
 
 pub fits-spec : {M : Type 1} → statement M
-fits-spec =
-    tie.close
-    (tie.spec
-    returns
-    cast-holder-fits
-    holder-fits-requires
-    returns-2
-    least-count-requires
-    returns-3
-    most-count-requires
-    returns-4)
+fits-spec = tie.close (tie.spec returns cast-holder-fits holder-fits-requires returns-2 count-fits-requires returns-3)

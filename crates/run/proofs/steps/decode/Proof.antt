@@ -18,8 +18,8 @@ abbrev μ-loop : tie.MeasureT-loop
 loop-holds : tie.Need-loop-holds Inv-loop μ-loop
 loop-holds c = decode-start
 
-cut-row-requires : tie.Need-cut-row-requires Inv-loop μ-loop
-cut-row-requires c κs = search needs
+row-at-requires : tie.Need-row-at-requires Inv-loop μ-loop
+row-at-requires c κs = search needs
 
 enum-known-cells : tie.Need-enum-known-cells Inv-loop μ-loop
 enum-known-cells c = search needs
@@ -43,31 +43,31 @@ same-length-3 : tie.Need-same-length-3 Inv-loop μ-loop
 same-length-3 c = c .before .before .before .before .before .before .before .loop .inv .persons-so .long
 
 returns : tie.Need-returns Inv-loop μ-loop
-returns c = decode-bad (c .before .before .before .before .before .before .before .loop .inv) (sym (c .before .before .before .before .before .before .cut-row .ensures) ∙ c .before .before .before .before .cells .given .1) (sym (c .before .before .line-of .ensures) ∙ c .enum-told .given .1)
+returns c = decode-bad (c .before .before .before .before .before .before .before .loop .inv) (sym (c .before .before .before .before .before .before .row-at .ensures) ∙ c .before .before .before .before .cells .given .1) (sym (c .before .before .line-of .ensures) ∙ c .enum-told .given .1)
 
 slice-write-kinds : tie.Need-slice-write-kinds Inv-loop μ-loop
-slice-write-kinds c = let room = decode-room (c .before .before .before .before .before .before .before .before .loop .inv) (c .before .before .before .before .before .before .before .before .before .before .before .before .before .pre .0) (sym (c .before .before .before .before .before .before .before .cut-row .ensures) ∙ c .before .before .before .before .before .cells .given .1) (sym (c .before .before .before .line-of .ensures) ∙ c .before .kind .given .1) in let long = c .before .before .before .before .before .before .before .before .loop .inv .kinds-so .long in omega (arith, c .before .before .before .before .before .before .before .before .before .before .before .before .before .pre .1 .0)
+slice-write-kinds c = let room = decode-room (c .before .before .before .before .before .before .before .before .loop .inv) (c .before .before .before .before .before .before .before .before .before .before .before .before .before .pre .0) (sym (c .before .before .before .before .before .before .before .row-at .ensures) ∙ c .before .before .before .before .before .cells .given .1) (sym (c .before .before .before .line-of .ensures) ∙ c .before .kind .given .1) in let long = c .before .before .before .before .before .before .before .before .loop .inv .kinds-so .long in omega (arith, c .before .before .before .before .before .before .before .before .before .before .before .before .before .pre .1 .0)
 
 mul-doors : tie.Need-mul-doors Inv-loop μ-loop
 mul-doors c = search needs
 
 slice-write-doors : tie.Need-slice-write-doors Inv-loop μ-loop
-slice-write-doors c = let room = decode-room (c .before .before .before .before .before .before .before .before .loop .inv) (c .before .before .before .before .before .before .before .before .before .before .before .before .before .pre .0) (sym (c .before .before .before .before .before .before .before .cut-row .ensures) ∙ c .before .before .before .before .before .cells .given .1) (sym (c .before .before .before .line-of .ensures) ∙ c .before .kind .given .1) in let long = c .before .before .before .before .before .before .before .before .loop .inv .doors-so .long in omega (arith, c .before .before .before .before .before .before .before .before .before .before .before .before .before .pre .1 .1)
+slice-write-doors c = let room = decode-room (c .before .before .before .before .before .before .before .before .loop .inv) (c .before .before .before .before .before .before .before .before .before .before .before .before .before .pre .0) (sym (c .before .before .before .before .before .before .before .row-at .ensures) ∙ c .before .before .before .before .before .cells .given .1) (sym (c .before .before .before .line-of .ensures) ∙ c .before .kind .given .1) in let long = c .before .before .before .before .before .before .before .before .loop .inv .doors-so .long in omega (arith, c .before .before .before .before .before .before .before .before .before .before .before .before .before .pre .1 .1)
 
 mul-persons : tie.Need-mul-persons Inv-loop μ-loop
 mul-persons c = search needs
 
 slice-write-persons : tie.Need-slice-write-persons Inv-loop μ-loop
-slice-write-persons c = let room = decode-room (c .before .before .before .before .before .before .before .before .loop .inv) (c .before .before .before .before .before .before .before .before .before .before .before .before .before .pre .0) (sym (c .before .before .before .before .before .before .before .cut-row .ensures) ∙ c .before .before .before .before .before .cells .given .1) (sym (c .before .before .before .line-of .ensures) ∙ c .before .kind .given .1) in let long = c .before .before .before .before .before .before .before .before .loop .inv .persons-so .long in omega (arith, c .before .before .before .before .before .before .before .before .before .before .before .before .before .pre .1 .2)
+slice-write-persons c = let room = decode-room (c .before .before .before .before .before .before .before .before .loop .inv) (c .before .before .before .before .before .before .before .before .before .before .before .before .before .pre .0) (sym (c .before .before .before .before .before .before .before .row-at .ensures) ∙ c .before .before .before .before .before .cells .given .1) (sym (c .before .before .before .line-of .ensures) ∙ c .before .kind .given .1) in let long = c .before .before .before .before .before .before .before .before .loop .inv .persons-so .long in omega (arith, c .before .before .before .before .before .before .before .before .before .before .before .before .before .pre .1 .2)
 
 add-count : tie.Need-add-count Inv-loop μ-loop
-add-count c = let room = decode-room (c .before .before .before .before .before .before .before .before .loop .inv) (c .before .before .before .before .before .before .before .before .before .before .before .before .before .pre .0) (sym (c .before .before .before .before .before .before .before .cut-row .ensures) ∙ c .before .before .before .before .before .cells .given .1) (sym (c .before .before .before .line-of .ensures) ∙ c .before .kind .given .1) in omega arith
+add-count c = let room = decode-room (c .before .before .before .before .before .before .before .before .loop .inv) (c .before .before .before .before .before .before .before .before .before .before .before .before .before .pre .0) (sym (c .before .before .before .before .before .before .before .row-at .ensures) ∙ c .before .before .before .before .before .cells .given .1) (sym (c .before .before .before .line-of .ensures) ∙ c .before .kind .given .1) in omega arith
 
 loop-less : tie.Need-loop-less Inv-loop μ-loop
-loop-less c = let w = cut-there _ _ (sym (c .before .before .before .before .before .before .before .cut-row .ensures) ∙ c .before .before .before .before .before .cells .given .1) in omega arith
+loop-less c = let w = cut-there _ _ (sym (c .before .before .before .before .before .before .before .row-at .ensures) ∙ c .before .before .before .before .before .cells .given .1) in omega arith
 
 loop-again : tie.Need-loop-again Inv-loop μ-loop
-loop-again c = decode-more (c .before .before .before .before .before .before .before .before .loop .inv) (c .before .before .before .before .before .before .before .before .before .before .before .before .before .pre .0) (sym (c .before .before .before .before .before .before .before .cut-row .ensures) ∙ c .before .before .before .before .before .cells .given .1) (sym (c .before .before .before .line-of .ensures) ∙ c .before .kind .given .1)
+loop-again c = decode-more (c .before .before .before .before .before .before .before .before .loop .inv) (c .before .before .before .before .before .before .before .before .before .before .before .before .before .pre .0) (sym (c .before .before .before .before .before .before .before .row-at .ensures) ∙ c .before .before .before .before .before .cells .given .1) (sym (c .before .before .before .line-of .ensures) ∙ c .before .kind .given .1)
 
 enum-told-2 : tie.Need-enum-told-2 Inv-loop μ-loop
 enum-told-2 c = search needs
@@ -82,7 +82,7 @@ same-length-6 : tie.Need-same-length-6 Inv-loop μ-loop
 same-length-6 c = c .before .before .before .loop .inv .persons-so .long
 
 returns-2 : tie.Need-returns-2 Inv-loop μ-loop
-returns-2 c = decode-over (c .before .before .before .loop .inv) (sym (c .before .before .cut-row .ensures) ∙ c .enum-told2 .given .1)
+returns-2 c = decode-over (c .before .before .before .loop .inv) (sym (c .before .before .row-at .ensures) ∙ c .enum-told2 .given .1)
 
 enum-told-3 : tie.Need-enum-told-3 Inv-loop μ-loop
 enum-told-3 c = search needs
@@ -97,7 +97,7 @@ same-length-9 : tie.Need-same-length-9 Inv-loop μ-loop
 same-length-9 c = c .before .before .before .loop .inv .persons-so .long
 
 returns-3 : tie.Need-returns-3 Inv-loop μ-loop
-returns-3 c = decode-broken (c .before .before .before .loop .inv) (sym (c .before .before .cut-row .ensures) ∙ c .enum-told3 .given .1)
+returns-3 c = decode-broken (c .before .before .before .loop .inv) (sym (c .before .before .row-at .ensures) ∙ c .enum-told3 .given .1)
 
 pub decode-spec : {M : Type 1} → statement M
 decode-spec =
@@ -106,7 +106,7 @@ decode-spec =
     Inv-loop
     μ-loop
     loop-holds
-    cut-row-requires
+    row-at-requires
     enum-known-cells
     line-of-requires
     enum-known-kind

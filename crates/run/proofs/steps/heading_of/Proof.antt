@@ -13,8 +13,8 @@ returns : tie.Need-returns
 unfolding headingOf
 returns c = rw (lt-ltb limit (length (c .before .before .args .s .now)) (omega (arith, c .if1 .taken)))
 
-cut-row-requires : tie.Need-cut-row-requires
-cut-row-requires c κs = search needs
+row-at-requires : tie.Need-row-at-requires
+row-at-requires c κs = search needs
 
 enum-known-cells : tie.Need-enum-known-cells
 enum-known-cells c = search needs
@@ -24,7 +24,7 @@ is-header-requires c κs = search needs
 
 returns-2 : tie.Need-returns-2
 unfolding headingOf
-returns-2 c = rw (le-ltb limit (length (c .before .before .before .before .before .before .before .before .args .s .now)) (omega (arith, c .before .before .before .before .before .before .if1 .left)), sym (c .before .before .before .before .before .cut-row .ensures) ∙ c .before .before .before .cells .given .1, sym (c .before .is-header .ensures) ∙ not-true _ (c .if2 .taken))
+returns-2 c = rw (le-ltb limit (length (c .before .before .before .before .before .before .before .before .args .s .now)) (omega (arith, c .before .before .before .before .before .before .if1 .left)), sym (c .before .before .before .before .before .row-at .ensures) ∙ c .before .before .before .cells .given .1, sym (c .before .is-header .ensures) ∙ not-true _ (c .if2 .taken))
 
 enum-told : tie.Need-enum-told
 enum-told c = search needs
@@ -34,22 +34,22 @@ enum-told-2 c = search needs
 
 returns-3 : tie.Need-returns-3
 unfolding headingOf
-returns-3 c = rw (le-ltb limit (length (c .before .before .before .before .before .before .before .before .args .s .now)) (omega (arith, c .before .before .before .before .before .before .if1 .left)), sym (c .before .before .before .before .before .cut-row .ensures) ∙ c .before .before .before .cells .given .1, sym (c .before .is-header .ensures) ∙ not-false _ (c .if2 .left))
+returns-3 c = rw (le-ltb limit (length (c .before .before .before .before .before .before .before .before .args .s .now)) (omega (arith, c .before .before .before .before .before .before .if1 .left)), sym (c .before .before .before .before .before .row-at .ensures) ∙ c .before .before .before .cells .given .1, sym (c .before .is-header .ensures) ∙ not-false _ (c .if2 .left))
 
 returns-4 : tie.Need-returns-4
 unfolding headingOf
-returns-4 c = rw (le-ltb limit (length (c .before .before .before .before .before .args .s .now)) (omega (arith, c .before .before .before .if1 .left)), sym (c .before .before .cut-row .ensures) ∙ c .enum-told .given .1)
+returns-4 c = rw (le-ltb limit (length (c .before .before .before .before .before .args .s .now)) (omega (arith, c .before .before .before .if1 .left)), sym (c .before .before .row-at .ensures) ∙ c .enum-told .given .1)
 
 returns-5 : tie.Need-returns-5
 unfolding headingOf
-returns-5 c = rw (le-ltb limit (length (c .before .before .before .before .before .args .s .now)) (omega (arith, c .before .before .before .if1 .left)), sym (c .before .before .cut-row .ensures) ∙ c .enum-told2 .given .1)
+returns-5 c = rw (le-ltb limit (length (c .before .before .before .before .before .args .s .now)) (omega (arith, c .before .before .before .if1 .left)), sym (c .before .before .row-at .ensures) ∙ c .enum-told2 .given .1)
 
 pub heading-of-spec : {M : Type 1} → statement M
 heading-of-spec =
     tie.close
     (tie.spec
     returns
-    cut-row-requires
+    row-at-requires
     enum-known-cells
     is-header-requires
     returns-2

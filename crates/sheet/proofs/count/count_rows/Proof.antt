@@ -19,8 +19,8 @@ abbrev μ-loop : tie.MeasureT-loop
 loop-holds : tie.Need-loop-holds Inv-loop μ-loop
 loop-holds c = count-start _
 
-cut-row-requires : tie.Need-cut-row-requires Inv-loop μ-loop
-cut-row-requires c κs = search needs
+row-at-requires : tie.Need-row-at-requires Inv-loop μ-loop
+row-at-requires c κs = search needs
 
 enum-known-next : tie.Need-enum-known-next Inv-loop μ-loop
 enum-known-next c = search needs
@@ -29,24 +29,24 @@ add-rows : tie.Need-add-rows Inv-loop μ-loop
 add-rows c = search needs
 
 loop-less : tie.Need-loop-less Inv-loop μ-loop
-loop-less c = let w = cut-there _ _ (sym (c .before .before .before .cut-row .ensures) ∙ c .before .next .given .1) in omega arith
+loop-less c = let w = cut-there _ _ (sym (c .before .before .before .row-at .ensures) ∙ c .before .next .given .1) in omega arith
 
 loop-again : tie.Need-loop-again Inv-loop μ-loop
-loop-again c = count-more (c .before .before .before .before .loop .inv) (sym (c .before .before .before .cut-row .ensures) ∙ c .before .next .given .1)
+loop-again c = count-more (c .before .before .before .before .loop .inv) (sym (c .before .before .before .row-at .ensures) ∙ c .before .next .given .1)
 
 enum-told : tie.Need-enum-told Inv-loop μ-loop
 enum-told c = search needs
 
 returns : tie.Need-returns Inv-loop μ-loop
 unfolding countFrom
-returns c = sym (count-turn (c .before .before .before .loop .inv) (sym (c .before .before .cut-row .ensures) ∙ c .enum-told .given .1))
+returns c = sym (count-turn (c .before .before .before .loop .inv) (sym (c .before .before .row-at .ensures) ∙ c .enum-told .given .1))
 
 enum-known-byte : tie.Need-enum-known-byte Inv-loop μ-loop
 enum-known-byte c = search needs
 
 returns-2 : tie.Need-returns-2 Inv-loop μ-loop
 unfolding countFrom
-returns-2 c = sym (count-turn (c .before .before .before .before .loop .inv) (sym (c .before .before .before .cut-row .ensures) ∙ c .before .byte .given .1))
+returns-2 c = sym (count-turn (c .before .before .before .before .loop .inv) (sym (c .before .before .before .row-at .ensures) ∙ c .before .byte .given .1))
 
 pub count-rows-spec : {M : Type 1} → statement M
 count-rows-spec =
@@ -55,7 +55,7 @@ count-rows-spec =
     Inv-loop
     μ-loop
     loop-holds
-    cut-row-requires
+    row-at-requires
     enum-known-next
     add-rows
     loop-less

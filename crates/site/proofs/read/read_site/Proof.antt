@@ -14,8 +14,8 @@ returns : tie.Need-returns
 unfolding siteOf afterHeader
 returns c = rw (lt-ltb _ _ (c .before .if1 .taken), c .refused .ensures)
 
-cut-row-requires : tie.Need-cut-row-requires
-cut-row-requires c κs = search needs
+row-at-requires : tie.Need-row-at-requires
+row-at-requires c κs = search needs
 
 enum-known-cells : tie.Need-enum-known-cells
 enum-known-cells c = search needs
@@ -28,7 +28,7 @@ refused-requires-2 c κs = search needs
 
 returns-2 : tie.Need-returns-2
 unfolding siteOf afterHeader
-returns-2 c = rw (le-ltb _ _ (c .before .before .before .before .before .before .before .if1 .left), sym (c .before .before .before .before .before .before .cut-row .ensures) ∙ c .before .before .before .before .cells .given .1, sym (c .before .before .is-header .ensures) ∙ not-true _ (c .before .if2 .taken), c .refused2 .ensures)
+returns-2 c = rw (le-ltb _ _ (c .before .before .before .before .before .before .before .if1 .left), sym (c .before .before .before .before .before .before .row-at .ensures) ∙ c .before .before .before .before .cells .given .1, sym (c .before .before .is-header .ensures) ∙ not-true _ (c .before .if2 .taken), c .refused2 .ensures)
 
 read-rows-requires : tie.Need-read-rows-requires
 read-rows-requires c κs = search needs
@@ -50,15 +50,15 @@ refused-requires-4 c κs = search needs
 
 returns-3 : tie.Need-returns-3
 unfolding siteOf afterHeader
-returns-3 c = rw (le-ltb _ _ (c .before .before .before .before .before .before .before .before .if1 .left), sym (c .before .before .before .before .before .before .before .cut-row .ensures) ∙ c .before .before .before .before .before .cells .given .1, sym (c .before .before .before .is-header .ensures) ∙ not-false _ (c .before .before .if2 .left), c .settled .ensures, c .before .read-rows .ensures)
+returns-3 c = rw (le-ltb _ _ (c .before .before .before .before .before .before .before .before .if1 .left), sym (c .before .before .before .before .before .before .before .row-at .ensures) ∙ c .before .before .before .before .before .cells .given .1, sym (c .before .before .before .is-header .ensures) ∙ not-false _ (c .before .before .if2 .left), c .settled .ensures, c .before .read-rows .ensures)
 
 returns-4 : tie.Need-returns-4
 unfolding siteOf afterHeader
-returns-4 c = rw (le-ltb _ _ (c .before .before .before .before .if1 .left), sym (c .before .before .before .cut-row .ensures) ∙ c .before .enum-told .given .1, c .refused3 .ensures)
+returns-4 c = rw (le-ltb _ _ (c .before .before .before .before .if1 .left), sym (c .before .before .before .row-at .ensures) ∙ c .before .enum-told .given .1, c .refused3 .ensures)
 
 returns-5 : tie.Need-returns-5
 unfolding siteOf afterHeader
-returns-5 c = rw (le-ltb _ _ (c .before .before .before .before .if1 .left), sym (c .before .before .before .cut-row .ensures) ∙ c .before .enum-told2 .given .1, c .refused4 .ensures)
+returns-5 c = rw (le-ltb _ _ (c .before .before .before .before .if1 .left), sym (c .before .before .before .row-at .ensures) ∙ c .before .enum-told2 .given .1, c .refused4 .ensures)
 
 pub read-site-spec : {M : Type 1} → statement M
 read-site-spec =
@@ -66,7 +66,7 @@ read-site-spec =
     (tie.spec
     refused-requires
     returns
-    cut-row-requires
+    row-at-requires
     enum-known-cells
     is-header-requires
     refused-requires-2

@@ -26,8 +26,8 @@ abbrev μ-loop : tie.MeasureT-loop
 loop-holds : tie.Need-loop-holds Inv-loop μ-loop
 loop-holds c = read-start bounded-blank
 
-cut-row-requires : tie.Need-cut-row-requires Inv-loop μ-loop
-cut-row-requires c κs = search needs
+row-at-requires : tie.Need-row-at-requires Inv-loop μ-loop
+row-at-requires c κs = search needs
 
 enum-known-cells : tie.Need-enum-known-cells Inv-loop μ-loop
 enum-known-cells c = search needs
@@ -50,13 +50,13 @@ returns c =
     let l = t .before .before .before .before .before .before in
     let k = l .before .before in
     let r = k .before .before in
-    rw (c .stop .ensures) (sym (read-stop (r .before .loop .inv) (sym (r .cut-row .ensures) ∙ k .cells .given .1) (t .take .ensures ∙ ap (takeLine _) (l .line-of .ensures)) (sym (c .before .before .is-sound .ensures) ∙ not-true _ (c .before .if1 .taken))))
+    rw (c .stop .ensures) (sym (read-stop (r .before .loop .inv) (sym (r .row-at .ensures) ∙ k .cells .given .1) (t .take .ensures ∙ ap (takeLine _) (l .line-of .ensures)) (sym (c .before .before .is-sound .ensures) ∙ not-true _ (c .before .if1 .taken))))
 
 add-row : tie.Need-add-row Inv-loop μ-loop
-add-row c = let w = cut-there _ _ (sym (c .before .before .before .before .before .before .before .before .before .before .before .before .before .cut-row .ensures) ∙ c .before .before .before .before .before .before .before .before .before .before .before .cells .given .1) in let f = c .before .before .before .before .before .before .before .before .before .before .before .before .before .before .loop .inv .few in omega (arith, c .before .before .before .before .before .before .before .before .before .before .before .before .before .before .before .before .good)
+add-row c = let w = cut-there _ _ (sym (c .before .before .before .before .before .before .before .before .before .before .before .before .before .row-at .ensures) ∙ c .before .before .before .before .before .before .before .before .before .before .before .cells .given .1) in let f = c .before .before .before .before .before .before .before .before .before .before .before .before .before .before .loop .inv .few in omega (arith, c .before .before .before .before .before .before .before .before .before .before .before .before .before .before .before .before .good)
 
 loop-less : tie.Need-loop-less Inv-loop μ-loop
-loop-less c = let w = cut-there _ _ (sym (c .before .before .before .before .before .before .before .before .before .before .before .before .before .cut-row .ensures) ∙ c .before .before .before .before .before .before .before .before .before .before .before .cells .given .1) in omega arith
+loop-less c = let w = cut-there _ _ (sym (c .before .before .before .before .before .before .before .before .before .before .before .before .before .row-at .ensures) ∙ c .before .before .before .before .before .before .before .before .before .before .before .cells .given .1) in omega arith
 
 loop-again : tie.Need-loop-again Inv-loop μ-loop
 loop-again c =
@@ -64,7 +64,7 @@ loop-again c =
     let l = t .before .before .before .before .before .before in
     let k = l .before .before in
     let r = k .before .before in
-    read-more (r .before .loop .inv) (sym (r .cut-row .ensures) ∙ k .cells .given .1) (t .take .ensures ∙ ap (takeLine _) (l .line-of .ensures)) (sym (c .before .is-sound .ensures) ∙ not-false _ (c .if1 .left))
+    read-more (r .before .loop .inv) (sym (r .row-at .ensures) ∙ k .cells .given .1) (t .take .ensures ∙ ap (takeLine _) (l .line-of .ensures)) (sym (c .before .is-sound .ensures) ∙ not-false _ (c .if1 .left))
 
 enum-told : tie.Need-enum-told Inv-loop μ-loop
 enum-told c = search needs
@@ -74,7 +74,7 @@ stop-requires-2 c κs = search needs
 
 returns-2 : tie.Need-returns-2 Inv-loop μ-loop
 unfolding linesIn readLines
-returns-2 c = rw (c .stop2 .ensures) (sym (read-turn (c .before .before .before .before .loop .inv) (sym (c .before .before .before .cut-row .ensures) ∙ c .before .enum-told .given .1)))
+returns-2 c = rw (c .stop2 .ensures) (sym (read-turn (c .before .before .before .before .loop .inv) (sym (c .before .before .before .row-at .ensures) ∙ c .before .enum-told .given .1)))
 
 enum-told-2 : tie.Need-enum-told-2 Inv-loop μ-loop
 enum-told-2 c = search needs
@@ -84,7 +84,7 @@ stop-requires-3 c κs = search needs
 
 returns-3 : tie.Need-returns-3 Inv-loop μ-loop
 unfolding linesIn readLines takeLine
-returns-3 c = rw (c .stop3 .ensures) (sym (read-turn (c .before .before .before .before .loop .inv) (sym (c .before .before .before .cut-row .ensures) ∙ c .before .enum-told2 .given .1)))
+returns-3 c = rw (c .stop3 .ensures) (sym (read-turn (c .before .before .before .before .loop .inv) (sym (c .before .before .before .row-at .ensures) ∙ c .before .enum-told2 .given .1)))
 
 pub take-rows-spec : {M : Type 1} → statement M
 take-rows-spec =
@@ -93,7 +93,7 @@ take-rows-spec =
     Inv-loop
     μ-loop
     loop-holds
-    cut-row-requires
+    row-at-requires
     enum-known-cells
     line-of-requires
     take-requires
