@@ -283,7 +283,16 @@ pub fn lists_sound<'a>(
 ) -> bool
     ensures { λ r. ⌜ r ≡ listsSound (plan people locations doors (now (origin .entry)) (now (destination .entry)) (now (exit .entry))) (now (right .entry)) (now (place .entry)) (now (phase .entry)) (now (holder .entry)) (now (count .entry)) ⌝ }
 {
-    if !rules::lawful(place.len(), people, locations, doors, origin, destination, exit, right) {
+    if !rules::lawful(
+        place.len(),
+        people,
+        locations,
+        doors,
+        origin,
+        destination,
+        exit,
+        right,
+    ) {
         return false;
     }
     if !tables_end(people, locations, doors, origin, destination, exit, right) {
