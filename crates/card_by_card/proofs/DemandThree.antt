@@ -3,10 +3,10 @@
 use Prim.Native.Nat.{ℕ}
 use mathlib.Core.Path.{_≡_, sym, ap, subst, _∙_}
 use mathlib.Core.List.{List}
-use Rattle.tables.specs.Tables.{andAlso}
+use Rattle.tables.specs.Tables.{andAlso, mostPeople}
 use Rattle.record.specs.declared.record.Record.{Record}
 use Rattle.phases.specs.Phase.{grants}
-use Rattle.record.specs.Doors.{doorOf, tablesOf, zeros}
+use Rattle.record.specs.Doors.{planOf, doorOf, zeros}
 use Rattle.record.specs.Run.{lastOf}
 use Rattle.phases.specs.Kinds.{StepRow}
 use Rattle.card_by_card.specs.Serving.{heardOf, noCards, recordedIn}
@@ -17,11 +17,11 @@ use Rattle.card_by_card.proofs.Runs.{ServesAll, all-lead, all-decide, W
 
 -- a fresh record is its own cleared record, and no card is open
 fresh-clear : (r : Record) → Fresh r → cleared r ≡ r
-fresh-clear r f = ap (λ (x : Record). clear (tablesOf r) (x .place)) (f .fresh) ∙ sym (f .fresh)
+fresh-clear r f = ap (λ (x : Record). clear (planOf r) (r .right) (x .place)) (f .fresh) ∙ sym (f .fresh)
 
 fresh-open : (r : Record) → Fresh r → (d : ℕ) → noCards d ≡ openAt (doorOf r d)
 unfolding openAt grants andAlso
-fresh-open r f d = sym (ap (λ (x : Record). openAt (doorOf x d)) (f .fresh) ∙ ap openAt (clear-free (tablesOf r) (zeros 64) d))
+fresh-open r f d = sym (ap (λ (x : Record). openAt (doorOf x d)) (f .fresh) ∙ ap openAt (clear-free (planOf r) (r .right) (zeros mostPeople) d))
 
 run : (r : Record) → Fresh r → (rows : List StepRow) → Whole r noCards (heardOf r rows) (lastOf r rows)
 run r f rows = whole rows r (f .shaped) (f .sound) noCards (fresh-open r f)
@@ -39,7 +39,7 @@ demand-3 r f rows =
     record {
       acts = led .acts;
       decides = all-decide (all-served r f rows);
-      all-free = λ d. ap (λ (x : Record). doorOf x d) (led .last) ∙ clear-free (tablesOf (lastOf r rows)) (lastOf r rows .place) d;
+      all-free = λ d. ap (λ (x : Record). doorOf x d) (led .last) ∙ clear-free (planOf (lastOf r rows)) (lastOf r rows .right) (lastOf r rows .place) d;
       places = ap (λ (x : Record). x .place) (led .last);
       open-at-end = run r f rows .agrees;
       unserved = run r f rows .counts;
