@@ -1,7 +1,8 @@
 -- The theorems of a site sheet: what is said of it, and what the record of an accepted one holds.
 -- Assumes nothing.
 use Prim.Native.Nat.{ℕ, _≤_}
-use mathlib.Core.Path.{_≡_, sym, ap, subst}
+use mathlib.Core.Path.{_≡_, sym, ap, subst, _∙_}
+use native.Mathlib.Omega.{arith}
 use mathlib.Core.Logic.{_↔_}
 use mathlib.Core.List.{List, map}
 use lib.ListN.{length}
@@ -9,7 +10,8 @@ use Rattle.tables.specs.Tables.{mostPeople}
 use Rattle.tables.specs.Rules.{Lawful}
 use Rattle.record.specs.Sound.{Sound}
 use Rattle.record.specs.Doors.{Shaped}
-use Rattle.record.proofs.Fresh.{fresh-sound, fresh-shaped}
+use Rattle.record.specs.declared.record.Record.{Record}
+use Rattle.record.proofs.Fresh.{zeros-long, fresh-sound, fresh-shaped}
 use Rattle.verdict.specs.declared.Verdict.{Verdict}
 use Rattle.verdict.specs.declared.Verdict.the-variants.{Accepted}
 use Rattle.grammar.specs.Grammar.{Row, Sheet}
@@ -53,6 +55,13 @@ accepted-holds most s e =
       sound = subst Sound (sym (ap (λ x. x .«record») (accepted-record o))) (fresh-sound _ _ (obeys-lawful o) (h .zero));
       shaped = subst Shaped (sym (ap (λ x. x .«record») (accepted-record o))) (fresh-shaped _ _ (h .shape .origins) (h .shape .destinations) (h .shape .exits));
     }
+
+-- And its people are no more than a site may have.
+pub accepted-people : {most : ℕ} {s : List ℕ} → AcceptedRecord most s → siteAt most s .«record» .people ≤ mostPeople
+accepted-people a =
+    let room = ap (λ (r : Record). length (r .place)) (a .fresh) ∙ zeros-long mostPeople in
+    let people = a .sound .tables .in-range .people-to in
+    omega arith
 
 -- Two sheets with the same rows, quoted or not, with the last CRLF or not, have the same answer.
 pub same-rows-same-answer : {most : ℕ} {s t : List ℕ} {rs ss : List Row} → length s ≤ most → length t ≤ most → Sheet s rs → Sheet t ss
