@@ -9,7 +9,7 @@ use Rattle.phases.specs.declared.table.Kind.{Kind}
 use Rattle.phases.specs.declared.answer.Answer.{Answer}
 use Rattle.phases.specs.declared.answer.Answer.the-variants.{Done, NoSuch, NotAllowed, TooShort, Unsound}
 use Rattle.phases.specs.Answers.{answerNo}
-use Rattle.record.specs.Doors.{planOf, Shaped}
+use Rattle.record.specs.Doors.{Shaped}
 use Rattle.record.specs.Sound.{Sound}
 use Rattle.record.specs.Steps.{stepOf}
 use Rattle.record.specs.Run.{rowOf, lastOf}

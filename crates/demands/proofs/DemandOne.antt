@@ -17,14 +17,12 @@ use Rattle.grammar.specs.declared.cut.FieldCut.{FieldCut}
 use Rattle.grammar.specs.declared.cut.FieldCut.the-variants.{Next, Last, Fault}
 use Rattle.grammar.specs.declared.cut.RowCut.{RowCut}
 use Rattle.grammar.specs.declared.cut.RowCut.the-variants.{Cut, NoRow, Broken}
-use Rattle.grammar.specs.declared.say.Number.the-variants.{Is, None}
 use Rattle.grammar.specs.Grammar.{Field, bare, quoted, fieldText, comma, cr, lf}
 use Rattle.grammar.specs.Cut.{emptyAt, cutField, cutRow}
 use Rattle.grammar.specs.Where.{cellOf, CellHolds}
 use Rattle.grammar.specs.Past.{past, pastRow}
 use Rattle.grammar.specs.Rows.{onRow, readRows, rowsFrom, countFrom, countRows}
-use Rattle.grammar.specs.Say.{valueFrom, ProperNumber, contentAt, sameBytes, isWord, saysWords, numberAt}
-use Rattle.grammar.specs.Say as say
+use Rattle.grammar.specs.Say.{contentAt, sameBytes, isWord, saysWords}
 use Rattle.grammar.proofs.Steps.{FieldIn, field-in, cut-within}
 use Rattle.grammar.proofs.Found.{FieldFound, with-crlf, with-sheet}
 use Rattle.grammar.proofs.Reading.{cut-behind, cut-there}
@@ -36,7 +34,7 @@ use Rattle.tables.specs.declared.Found.{Found}
 use Rattle.tables.specs.declared.Found.the-variants.{At, Nothing}
 use Rattle.tables.specs.declared.RightFound.{RightFound}
 use Rattle.tables.specs.declared.RightFound.the-variants as pair
-use Rattle.tables.specs.Tests.{lacksExit, firstNoExit, strays, firstStray, lacksDoor, firstNoDoor, firstNoRight, shutOut, firstShutOut, countsFit, planInRange, lawfulB}
+use Rattle.tables.specs.Tests.{lacksExit, firstNoExit, strays, firstStray, firstNoDoor, firstNoRight, firstShutOut, countsFit, planInRange, lawfulB}
 use Rattle.tables.specs.Way.{wayOf, ifRoom, wayToldIn, wayWrittenIn}
 use Rattle.tables.proofs.Laws.{and-left, and-right, and-both, clash, least-at, may-be-outside, tell-le, tell-and, tell-as}
 use Rattle.tables.proofs.Answers.{in-range-tells, rule-8, rule-9, rule-10, lawful-tells}
