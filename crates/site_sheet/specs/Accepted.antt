@@ -1,5 +1,6 @@
 -- The record of an accepted site sheet. 01, "The record": "The fresh record of an accepted sheet holds exactly that sheet's
--- counts, its doors in row order, its exits and its rights, with everyone in 0 and every door free." `most` is how many bytes a sheet may have.
+-- counts, its doors in row order, its exits and its rights, with everyone in 0 and every door free."
+-- `most` is how many bytes a sheet may have.
 use mathlib.Core.Path.{_≡_}
 use mathlib.Core.List.{List}
 use Prim.Native.Nat.{ℕ}
