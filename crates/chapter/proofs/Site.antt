@@ -55,9 +55,9 @@ axioms r s =
       axm1-2 = λ l m d is. s .tables .in-range .no-loop (d .door) (d .exists) (d .starts ∙ is ∙ sym (d .ends));
       axm1-3 = λ l h. s .tables .in-range .exits l (h .0);
       axm1-4 = no-circle;
-      axm1-5 = λ l h. s .tables .exit-door l (pos-of-ne-zero (h .1)) (h .0);
+      axm1-5 = λ l h. s .tables .exit-door l (h .0) (pos-of-ne-zero (h .1));
       axm1-6 = λ p l a ne.
-          (a .0, s .tables .in-range .exits l (a .1), s .tables .exit-right p l (a .0) (pos-of-ne-zero ne) (a .1) (a .2));
+          (a .0, s .tables .in-range .exits l (a .1), s .tables .exit-right p (a .0) l (a .1) (pos-of-ne-zero ne) (a .2));
       axm1-7 = λ p h. let f = s .tables .first p h in (f .location, (h, may-exists r s p (f .location) (f .may), f .may), f .door);
       axm2-1 = s .tables .in-range .origins;
       axm2-2 = s .tables .in-range .destinations;

@@ -9,7 +9,7 @@ use lib.ListN.{length, getD}
 use borrow.Author.Tests.{lt-ltb, le-ltb, ne-eqb}
 use Rattle.tables.specs.Below.{Smallest, SmallestPair, Answers}
 use Rattle.tables.specs.Way.{LeadsOut}
-use Rattle.tables.specs.Rules.{DoorFrom, FirstLocation}
+use Rattle.tables.specs.Rules.{FirstLocation, ExitDoor, ExitRight}
 use Rattle.tables.specs.declared.Found.the-variants as found
 use Rattle.tables.specs.declared.RightFound.the-variants as pair
 use Rattle.tables.specs.Tests.{firstNoExit, firstStray, firstNoDoor, firstNoRight}
@@ -34,7 +34,7 @@ use Rattle.site_sheet.specs.Line.{siteHeaderAt}
 use Rattle.site_sheet.specs.Draft.{blankDraft, planIn}
 use Rattle.site_sheet.specs.Site.{verdictOf, linesIn, readLines, acceptedSite, judged, settled, afterHeader, siteAt}
 use Rattle.site_sheet.specs.Says.{HeaderRow, LineInRange, site-range, door-range, exit-range, right-range, NotFirst, door-first, exit-first, right-first, Fine, Wrong, of-form, no-site, out-of-range, said-again}
-use Rattle.site_sheet.specs.Gives.{Headed, FineLines, one-fine, WrongAt, here, further, draftAfter, Tabled, Six, Seven, Eight, ExitRight, Nine, Ten, Obeys, Gives, gives-0, gives-1, gives-header, gives-row, gives-5, gives-6, gives-7, gives-8, gives-9, gives-10}
+use Rattle.site_sheet.specs.Gives.{Headed, FineLines, one-fine, WrongAt, here, further, draftAfter, Tabled, Six, Seven, Eight, Nine, Ten, Obeys, Gives, gives-0, gives-1, gives-header, gives-row, gives-5, gives-6, gives-7, gives-8, gives-9, gives-10}
 use Rattle.site_sheet.proofs.Held.{Held, Ranged, held-blank}
 use Rattle.site_sheet.proofs.Outcome.{fine}
 use Rattle.site_sheet.proofs.Rows.{headerFrom, header-same, header-is, is-header-row}
@@ -162,7 +162,7 @@ module _ (most : ℕ) (s : List ℕ) where
         e₇ : firstStray (d .locations) (d .exit) ≡ found.Nothing
         e₇ = ranged-7 .none-back seven
 
-        given-8 : {k : ℕ} → Smallest (λ l. 1 ≤ l → DoorFrom (planIn d) l (getD (d .exit) l 0)) (d .locations) k → judged d .verdict ≡ NoDoor k
+        given-8 : {k : ℕ} → Smallest (ExitDoor (planIn d)) (d .locations) k → judged d .verdict ≡ NoDoor k
         unfolding judged
         given-8 {k} m = rw (e₆, e₇, rule-8 (planIn d) .at-back k m)
 
@@ -170,7 +170,7 @@ module _ (most : ℕ) (s : List ℕ) where
           e₈ : firstNoDoor (planIn d) ≡ found.Nothing
           e₈ = rule-8 (planIn d) .none-back eight
 
-          given-9 : {p l : ℕ} → SmallestPair (ExitRight d) (d .people) (d .locations) p l → judged d .verdict ≡ NoRight p l
+          given-9 : {p l : ℕ} → SmallestPair (ExitRight (planIn d) (d .right)) (d .people) (d .locations) p l → judged d .verdict ≡ NoRight p l
           unfolding judged
           given-9 {p} {l} m = rw (e₆, e₇, e₈, rule-9 (planIn d) (d .right) .at-back p l m)
 

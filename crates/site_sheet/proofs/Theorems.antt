@@ -36,8 +36,8 @@ obeys-lawful : {most : ℕ} {s : List ℕ} (o : Obeys most s) → Lawful mostPeo
 obeys-lawful o = record {
   in-range = tabled-held (o .rows) .ranged (o .rows .some);
   leads-out = o .seven;
-  exit-door = λ l i w. o .eight l w i;
-  exit-right = λ p l a i w. o .nine p a l w i;
+  exit-door = o .eight;
+  exit-right = o .nine;
   first = o .ten;
 }
 

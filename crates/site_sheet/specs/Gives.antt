@@ -5,10 +5,9 @@ use mathlib.Core.Path.{_≡_}
 use mathlib.Core.Bool.{true, false}
 use mathlib.Core.List.{List, [], _∷_, _++_}
 use lib.ListN.{length, getD}
-use Rattle.tables.specs.Tables.{mayBe}
 use Rattle.tables.specs.Below.{Smallest, SmallestPair}
 use Rattle.tables.specs.Way.{LeadsOut}
-use Rattle.tables.specs.Rules.{DoorFrom, FirstLocation}
+use Rattle.tables.specs.Rules.{FirstLocation, ExitDoor, ExitRight}
 use Rattle.grammar.specs.Grammar.{Row, RowAt}
 use Rattle.site_sheet.specs.declared.SiteLine.{SiteLine}
 use Rattle.site_sheet.specs.declared.Draft.{Draft}
@@ -60,13 +59,10 @@ abbrev pub Seven : Draft → Type 0
 Seven d = (l : ℕ) → l < d .locations → LeadsOut (d .exit) l
 
 abbrev pub Eight : Draft → Type 0
-Eight d = (l : ℕ) → l < d .locations → 1 ≤ l → DoorFrom (planIn d) l (getD (d .exit) l 0)
-
-abbrev pub ExitRight : Draft → ℕ → ℕ → Type 0
-ExitRight d p l = 1 ≤ l → mayBe (d .right) p l ≡ true → mayBe (d .right) p (getD (d .exit) l 0) ≡ true
+Eight d = (l : ℕ) → l < d .locations → ExitDoor (planIn d) l
 
 abbrev pub Nine : Draft → Type 0
-Nine d = (p : ℕ) → p < d .people → (l : ℕ) → l < d .locations → ExitRight d p l
+Nine d = (p : ℕ) → p < d .people → (l : ℕ) → l < d .locations → ExitRight (planIn d) (d .right) p l
 
 abbrev pub Ten : Draft → Type 0
 Ten d = (p : ℕ) → p < d .people → FirstLocation (planIn d) (d .right) p
@@ -97,7 +93,7 @@ pub data Gives (most : ℕ) (s : List ℕ) : Verdict → Type 0 where
   gives-6 : {d : Draft} {k : ℕ} → Tabled most s d → Smallest (λ l. 1 ≤ l → getD (d .given) l false ≡ true) (d .locations) k → Gives most s (NoExit k)
   gives-7 : {d : Draft} {k : ℕ} → Tabled most s d → Six d → Smallest (LeadsOut (d .exit)) (d .locations) k → Gives most s (Stray k)
   gives-8 : {d : Draft} {k : ℕ} → Tabled most s d → Six d → Seven d
-      → Smallest (λ l. 1 ≤ l → DoorFrom (planIn d) l (getD (d .exit) l 0)) (d .locations) k → Gives most s (NoDoor k)
-  gives-9 : {d : Draft} {p l : ℕ} → Tabled most s d → Six d → Seven d → Eight d → SmallestPair (ExitRight d) (d .people) (d .locations) p l → Gives most s (NoRight p l)
+      → Smallest (ExitDoor (planIn d)) (d .locations) k → Gives most s (NoDoor k)
+  gives-9 : {d : Draft} {p l : ℕ} → Tabled most s d → Six d → Seven d → Eight d → SmallestPair (ExitRight (planIn d) (d .right)) (d .people) (d .locations) p l → Gives most s (NoRight p l)
   gives-10 : {d : Draft} {k : ℕ} → Tabled most s d → Six d → Seven d → Eight d → Nine d
       → Smallest (FirstLocation (planIn d) (d .right)) (d .people) k → Gives most s (ShutOut k)

@@ -15,7 +15,7 @@ use lib.ListN.{getD, length}
 use Rattle.tables.specs.Tables.{Plan, mayBe, mostLocations}
 use Rattle.tables.specs.Below.{someBelow, isNothing, Tells, Answers, AnswersPair}
 use Rattle.tables.specs.Way.{LeadsOut, wayOut, unvisited}
-use Rattle.tables.specs.Rules.{PlanInRange, ExitsGiven, DoorFrom, FirstLocation, Lawful}
+use Rattle.tables.specs.Rules.{PlanInRange, ExitsGiven, DoorFrom, FirstLocation, ExitDoor, ExitRight, Lawful}
 use Rattle.tables.specs.Tests.{doorInRange, exitInRange, countsFit, planInRange, lacksExit, firstNoExit, strays, firstStray}
 use Rattle.tables.specs.Tests.{joins, lacksDoor, firstNoDoor, lacksRight, firstNoRight, letsIn, shutOut, firstShutOut, lawfulB}
 use Rattle.tables.proofs.Laws.{some-yes, some-back, tell-lt, tell-le, tell-eq, tell-itself, tell-not, tell-and, tell-and-then, tell-then}
@@ -106,7 +106,7 @@ door-tells site from to =
           some-back (joins (site .origin) (site .destination) from to) (site .doors) (r .door) (r .exists) (here (r .door) .back (r .starts, r .ends));
     }
 
-pub rule-8 : (site : Plan) → Answers (firstNoDoor site) (λ l. 1 ≤ l → DoorFrom site l (getD (site .exit) l 0)) (site .locations)
+pub rule-8 : (site : Plan) → Answers (firstNoDoor site) (ExitDoor site) (site .locations)
 unfolding firstNoDoor lacksDoor
 rule-8 site =
     answers (lacksDoor (site .doors) (site .origin) (site .destination) (site .exit)) _ (site .locations)
@@ -114,9 +114,7 @@ rule-8 site =
 
 -- ---- rule 9
 
-pub rule-9 : (site : Plan) (right : List Bool)
-    → AnswersPair (firstNoRight site right)
-    (λ p l. 1 ≤ l → mayBe right p l ≡ true → mayBe right p (getD (site .exit) l 0) ≡ true) (site .people) (site .locations)
+pub rule-9 : (site : Plan) (right : List Bool) → AnswersPair (firstNoRight site right) (ExitRight site right) (site .people) (site .locations)
 unfolding firstNoRight lacksRight
 rule-9 site right =
     answers-pair (lacksRight (site .exit) right) _ (site .people) (site .locations)
@@ -149,14 +147,8 @@ pub lawful-tells : (most : ℕ) (site : Plan) (right : List Bool) → Tells (law
 unfolding lawfulB
 lawful-tells most site right =
     tell-as
-    (λ t. record {
-      in-range = t .0;
-      leads-out = t .1 .0;
-      exit-door = λ l low h. t .1 .1 .0 l h low;
-      exit-right = λ p l q low h. t .1 .1 .1 .0 p q l h low;
-      first = t .1 .1 .1 .1;
-    })
-    (λ r. (r .in-range, (r .leads-out, ((λ l h low. r .exit-door l low h), ((λ p q l h low. r .exit-right p l q low h), r .first)))))
+    (λ t. record { in-range = t .0; leads-out = t .1 .0; exit-door = t .1 .1 .0; exit-right = t .1 .1 .1 .0; first = t .1 .1 .1 .1 })
+    (λ r. (r .in-range, (r .leads-out, (r .exit-door, (r .exit-right, r .first)))))
     (tell-and-then (in-range-tells most site) (λ r.
     tell-and
     (tell-nothing _ _ (site .locations) (rule-7 (site .locations) (site .exit) (let low = r .locations-from in omega arith) (r .locations-to) (r .exits)))

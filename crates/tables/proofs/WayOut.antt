@@ -48,8 +48,8 @@ module _ {most : ℕ} {site : Plan} {right : List Bool} (lawful : Lawful most si
   safe p q outside h may = SafeWay.outside
   safe p q (onward {l} {m} {rest} ne e way) h may =
       let low = pos-of-ne-zero ne in
-      let door : DoorFrom site l m = rw e (lawful .exit-door l low h) in
-      let next : mayBe right p m ≡ true = rw e (lawful .exit-right p l q low h may) in
+      let door : DoorFrom site l m = rw e (lawful .exit-door l h low) in
+      let next : mayBe right p m ≡ true = rw e (lawful .exit-right p q l h low may) in
       SafeWay.onward door next (safe p q way (rw e (lawful .in-range .exits l h)) next)
 
   pub way-is-safe : (p l : ℕ) → p < site .people → l < site .locations → mayBe right p l ≡ true

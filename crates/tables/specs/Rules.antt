@@ -39,15 +39,21 @@ pub record FirstLocation (site : Plan) (right : List Bool) (p : ℕ) : Type 0 wh
   pub may : mayBe right p location ≡ true
   pub door : DoorFrom site 0 location
 
+-- 8: "each exit l to m has a door from l to m"
+abbrev pub ExitDoor : Plan → ℕ → Type 0
+ExitDoor site l = 1 ≤ l → DoorFrom site l (getD (site .exit) l 0)
+
+-- 9, by SAF-3: "whoever has a right to l has a right to its exit"
+abbrev pub ExitRight : Plan → List Bool → ℕ → ℕ → Type 0
+ExitRight site right p l = 1 ≤ l → mayBe right p l ≡ true → mayBe right p (getD (site .exit) l 0) ≡ true
+
 -- Rules 3 and 7 to 10, which a record's tables obey (in a record every location has an exit, so that 6 asks nothing).
 pub record Lawful (most : ℕ) (site : Plan) (right : List Bool) : Type 0 where
   pub in-range : PlanInRange most site
   -- 7: "following exits always comes to 0"
   pub leads-out : (l : ℕ) → l < site .locations → LeadsOut (site .exit) l
-  -- 8: "each exit l to m has a door from l to m"
-  pub exit-door : (l : ℕ) → 1 ≤ l → l < site .locations → DoorFrom site l (getD (site .exit) l 0)
-  -- 9, by SAF-3: "whoever has a right to l has a right to its exit"
-  pub exit-right : (p l : ℕ) → p < site .people → 1 ≤ l → l < site .locations → mayBe right p l ≡ true → mayBe right p (getD (site .exit) l 0) ≡ true
+  pub exit-door : (l : ℕ) → l < site .locations → ExitDoor site l
+  pub exit-right : (p : ℕ) → p < site .people → (l : ℕ) → l < site .locations → ExitRight site right p l
   -- 10: "everyone has a right to some location with a door from 0"
   pub first : (p : ℕ) → p < site .people → FirstLocation site right p
 
