@@ -1,61 +1,36 @@
 -- The record with its doors cleared: the tables and the places of a record, and every door free. Assumes nothing.
 use Prim.Native.Nat.{ℕ}
 use mathlib.Core.Path.{_≡_, sym, ap, subst, _∙_}
+use mathlib.Core.Bool.{Bool}
 use mathlib.Core.List.{List}
 use lib.ListN.{set}
 use lib.Seq.{set-getD}
+use Rattle.tables.specs.Tables.{Plan, mostDoors}
 use Rattle.record.specs.declared.record.Record.{Record}
 use Rattle.door.specs.Door.{freeDoor}
-use Rattle.record.specs.Doors.{doorOf, Tables, tablesOf, putDoor, zeros, Shaped}
+use Rattle.record.specs.Doors.{planOf, doorOf, putDoor, zeros, Shaped}
+use Rattle.record.specs.Deeds.{recordOf}
 use Rattle.record.specs.Sound.{DoorOk, Sound}
 use Rattle.record.proofs.Fresh.{zeros-at, zeros-long, free-ok}
 
-zeros-put : (d : ℕ) → set (zeros 64) d 0 ≡ zeros 64
-zeros-put d = ap (λ (n : ℕ). set (zeros 64) d n) (sym (zeros-at 64 d)) ∙ set-getD (zeros 64) d 0
+zeros-put : (d : ℕ) → set (zeros mostDoors) d 0 ≡ zeros mostDoors
+zeros-put d = ap (λ (n : ℕ). set (zeros mostDoors) d n) (sym (zeros-at mostDoors d)) ∙ set-getD (zeros mostDoors) d 0
 
 -- ---- the record with its doors cleared
 
--- these tables, everyone in these places and every door free
-abbrev pub clear : Tables → List ℕ → Record
-clear t place =
-    record {
-      people = t .people;
-      locations = t .locations;
-      doors = t .doors;
-      origin = t .origin;
-      destination = t .destination;
-      exit = t .exit;
-      right = t .right;
-      place = place;
-      phase = zeros 64;
-      holder = zeros 64;
-      count = zeros 64;
-    }
+-- this plan and these rights, everyone in these places and every door free
+abbrev pub clear : Plan → List Bool → List ℕ → Record
+clear site right place = recordOf site right place (zeros mostDoors) (zeros mostDoors) (zeros mostDoors)
 
 abbrev pub cleared : Record → Record
-cleared r = clear (tablesOf r) (r .place)
+cleared r = clear (planOf r) (r .right) (r .place)
 
-pub clear-free : (t : Tables) (place : List ℕ) (d : ℕ) → doorOf (clear t place) d ≡ freeDoor
-clear-free t place d = let z = zeros-at 64 d in λ i. record { phase = z i; holder = z i; count = z i }
+pub clear-free : (site : Plan) (right : List Bool) (place : List ℕ) (d : ℕ) → doorOf (clear site right place) d ≡ freeDoor
+clear-free site right place d = let z = zeros-at mostDoors d in λ i. record { phase = z i; holder = z i; count = z i }
 
 -- a door put free there is no change
-pub put-free : (t : Tables) (place : List ℕ) (d : ℕ) → putDoor (clear t place) d freeDoor ≡ clear t place
-put-free t place d =
-    let z = zeros-put d in
-    λ i.
-    record {
-      people = t .people;
-      locations = t .locations;
-      doors = t .doors;
-      origin = t .origin;
-      destination = t .destination;
-      exit = t .exit;
-      right = t .right;
-      place = place;
-      phase = z i;
-      holder = z i;
-      count = z i;
-    }
+pub put-free : (site : Plan) (right : List Bool) (place : List ℕ) (d : ℕ) → putDoor (clear site right place) d freeDoor ≡ clear site right place
+put-free site right place d = let z = zeros-put d in λ i. recordOf site right place (z i) (z i) (z i)
 
 pub clear-shaped : (r : Record) → Shaped r → Shaped (cleared r)
 clear-shaped r sh =
@@ -63,11 +38,9 @@ clear-shaped r sh =
       origins = sh .origins;
       destinations = sh .destinations;
       exits = sh .exits;
-      rights = sh .rights;
-      places = sh .places;
-      phases = zeros-long 64;
-      holders = zeros-long 64;
-      counts = zeros-long 64;
+      phases = zeros-long mostDoors;
+      holders = zeros-long mostDoors;
+      counts = zeros-long mostDoors;
     }
 
 pub clear-sound : (r : Record) → Sound r → Sound (cleared r)
@@ -76,7 +49,7 @@ clear-sound r s =
       tables = s .tables;
       zero-tables = s .zero-tables;
       zero-places = s .zero-places;
-      zero-doors = λ d _. clear-free (tablesOf r) (r .place) d;
+      zero-doors = λ d _. clear-free (planOf r) (r .right) (r .place) d;
       placed = s .placed;
-      doors = λ d _. subst (DoorOk (cleared r) d) (sym (clear-free (tablesOf r) (r .place) d)) (free-ok (cleared r) d);
+      doors = λ d _. subst (DoorOk (cleared r) d) (sym (clear-free (planOf r) (r .right) (r .place) d)) (free-ok (cleared r) d);
     }

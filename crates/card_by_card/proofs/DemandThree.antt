@@ -6,7 +6,7 @@ use mathlib.Core.List.{List, [], _++_}
 use Rattle.record.specs.declared.record.Record.{Record}
 use Rattle.tables.specs.Tables.{mostPeople}
 use Rattle.door.specs.Door.{freeDoor}
-use Rattle.record.specs.Doors.{doorOf, tablesOf, zeros}
+use Rattle.record.specs.Doors.{planOf, doorOf, zeros}
 use Rattle.record.specs.Run.{lastOf}
 use Rattle.phases.specs.Kinds.{StepRow}
 use Rattle.run_events.specs.Lines.{heardOf}
@@ -20,10 +20,10 @@ use Rattle.card_by_card.proofs.Runs.{ServesAll, all-lead, all-decide, o
 
 -- a fresh record is its own cleared record, and every door is free
 fresh-clear : (r : Record) → Fresh r → cleared r ≡ r
-fresh-clear r f = ap (λ (x : Record). clear (tablesOf r) (x .place)) (f .fresh) ∙ sym (f .fresh)
+fresh-clear r f = ap (λ (x : Record). clear (planOf r) (r .right) (x .place)) (f .fresh) ∙ sym (f .fresh)
 
 fresh-free : (r : Record) → Fresh r → (d : ℕ) → doorOf r d ≡ freeDoor
-fresh-free r f d = ap (λ (x : Record). doorOf x d) (f .fresh) ∙ clear-free (tablesOf r) (zeros mostPeople) d
+fresh-free r f d = ap (λ (x : Record). doorOf x d) (f .fresh) ∙ clear-free (planOf r) (r .right) (zeros mostPeople) d
 
 truly : (r : Record) → Fresh r → (rows : List StepRow) → TellsTruly noSpells 1 r rows
 truly r f rows = fresh-truly r (f .shaped) (f .sound) (fresh-free r f) rows
@@ -52,7 +52,7 @@ demand-3 r f rows =
     record {
       acts = led .acts;
       decides = all-decide (all-served r f rows);
-      all-free = λ d. ap (λ (x : Record). doorOf x d) (led .last) ∙ clear-free (tablesOf (lastOf r rows)) (lastOf r rows .place) d;
+      all-free = λ d. ap (λ (x : Record). doorOf x d) (led .last) ∙ clear-free (planOf (lastOf r rows)) (lastOf r rows .right) (lastOf r rows .place) d;
       places = ap (λ (x : Record). x .place) (led .last);
       told = told;
       open-at-end = told .agree .each;

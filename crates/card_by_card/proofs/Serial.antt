@@ -10,7 +10,7 @@ use borrow.Author.Tests.{lt-ltb, ne-eqb}
 use lib.ListN.{getD, set}
 use lib.Seq.{set-set}
 use lib.Dec.{eqb}
-use Rattle.tables.specs.Tables.{orElse, andAlso}
+use Rattle.tables.specs.Tables.{orElse, andAlso, mostDoors}
 use Rattle.tables.proofs.Laws.{clash}
 use Rattle.door.specs.declared.Door.{Door}
 use Rattle.record.specs.declared.record.Record.{Record}
@@ -20,7 +20,7 @@ use Rattle.phases.specs.declared.answer.Answer.the-variants.{Done}
 use Rattle.record.specs.declared.steps.Step.{Step}
 use Rattle.phases.specs.Phase.{read, granted, green, walked, expired, denied, red, dimmed, closed, greenSpan, redSpan, grants}
 use Rattle.door.specs.Door.{door, freeDoor}
-use Rattle.record.specs.Doors.{doorOf, tablesOf, putDoor, putAt, zeros, Shaped}
+use Rattle.record.specs.Doors.{planOf, doorOf, putDoor, putAt, zeros, Shaped}
 use Rattle.granting.specs.Grants.{GrantAt}
 use Rattle.record.specs.Sound.{Sound}
 use Rattle.phases.specs.Kinds.{StepRow, allows, namesPerson}
@@ -96,7 +96,7 @@ leads-then r row s {rows} {y} e done on =
 -- ---- one door of x that isn't free
 
 module _ (x : Record) (d : ℕ) (c : Door) (so : At x d c) where
-  within : d < 64
+  within : d < mostDoors
   within = let most = so .sound .tables .in-range .doors-to in let h = so .exists in omega arith
 
   here : doorOf (putDoor x d c) d ≡ c
@@ -225,12 +225,12 @@ module _ (r : Record) (sh : Shaped r) (s : Sound r) (d : ℕ) (hd : d < r .doors
   x = cleared r
 
   -- nobody has a grant while the card is read
-  no-grants : (p e : ℕ) → GrantAt (r .doors) (set (zeros 64) d read) (set (zeros 64) d h) p e → ⊥
+  no-grants : (p e : ℕ) → GrantAt (r .doors) (set (zeros mostDoors) d read) (set (zeros mostDoors) d h) p e → ⊥
   unfolding grants andAlso
   no-grants p e g =
       ⊎-elim
       (λ is. clash (subst (λ (c : Door). grants (c .phase) ≡ true) (put-same x (clear-shaped r sh) d (door read h 0) (let most = s .tables .in-range .doors-to in omega arith)) (rw is at (g .holds))) refl)
-      (λ is-not. clash (subst (λ (c : Door). grants (c .phase) ≡ true) (put-other x d (door read h 0) e is-not ∙ clear-free (tablesOf r) (r .place) e) (g .holds)) refl)
+      (λ is-not. clash (subst (λ (c : Door). grants (c .phase) ≡ true) (put-other x d (door read h 0) e is-not ∙ clear-free (planOf r) (r .right) (r .place) e) (g .holds)) refl)
       (same-or-not e d)
 
   -- so the reason there is the one of r, but for reason 3, which is none
@@ -244,7 +244,7 @@ module _ (r : Record) (sh : Shaped r) (s : Sound r) (d : ℕ) (hd : d < r .doors
 
   free-at : At x d freeDoor
   free-at =
-      record { shaped = clear-shaped r sh; sound = subst Sound (sym (put-free (tablesOf r) (r .place) d)) (clear-sound r s); exists = hd }
+      record { shaped = clear-shaped r sh; sound = subst Sound (sym (put-free (planOf r) (r .right) (r .place) d)) (clear-sound r s); exists = hd }
 
   card-turns : stepOf (putDoor x d freeDoor) Card d h ≡ turned x d (door read h 0) 0
   unfolding allows effect
@@ -269,16 +269,16 @@ module _ (r : Record) (sh : Shaped r) (s : Sound r) (d : ℕ) (hd : d < r .doors
   module _ (n : ℕ) where
     serves : (c : Door) (why : ℕ) (what : What) (place : List ℕ) → Decided c why → Reads (c .phase) why (servedAs what)
         → place ≡ placesBy (r .destination) (r .place) (event n d h what ∷ [])
-        → (At x d c → Leads (putDoor x d c) (afterDecide (servedAs what) d) (putDoor (clear (tablesOf r) place) d freeDoor))
-        → Serves x (event n d h what) (clear (tablesOf r) place)
+        → (At x d c → Leads (putDoor x d c) (afterDecide (servedAs what) d) (putDoor (clear (planOf r) (r .right) place) d freeDoor))
+        → Serves x (event n d h what) (clear (planOf r) (r .right) place)
     unfolding serviceOf
     serves c why what place decided told moved on =
-        let card : stepOf x Card d h ≡ turned x d (door read h 0) 0 = rw (put-free (tablesOf r) (r .place) d) at card-turns in
+        let card : stepOf x Card d h ≡ turned x d (door read h 0) 0 = rw (put-free (planOf r) (r .right) (r .place) d) at card-turns in
         record {
           leads =
               leads-then x (cardOf (event n d h what)) (turned x d (door read h 0) 0) card refl
               (leads-then (putDoor x d (door read h 0)) (stepAt Decide d) (turned x d c why) decided refl
-              (rw (put-free (tablesOf r) place d) at (on (at-next x d (door read h 0) read-at Decide 0 c why decided))));
+              (rw (put-free (planOf r) (r .right) place d) at (on (at-next x d (door read h 0) read-at Decide 0 c why decided))));
           decides = rw (card, decided) told;
           moved = moved;
           same-doors = refl;
@@ -302,7 +302,7 @@ module _ (r : Record) (sh : Shaped r) (s : Sound r) (d : ℕ) (hd : d < r .doors
     serves-lapse first = serves (door granted h 0) 0 Lapse (r .place) (decided-yes (reason-alone 3 first)) (lapsing refl refl) refl (after-lapse x d h)
 
     -- .. or is used, and the person is in the door's destination
-    pub serves-passage : First r d h 3 → Serves x (event n d h Passage) (clear (tablesOf r) (set (r .place) h (getD (r .destination) d 0)))
+    pub serves-passage : First r d h 3 → Serves x (event n d h Passage) (clear (planOf r) (r .right) (set (r .place) h (getD (r .destination) d 0)))
     unfolding servedAs placesBy isPassage
     serves-passage first =
         serves (door granted h 0) 0 Passage (set (r .place) h (getD (r .destination) d 0)) (decided-yes (reason-alone 3 first)) (passing refl refl) refl (after-passage x d h)

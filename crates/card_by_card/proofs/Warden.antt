@@ -10,6 +10,7 @@ use mathlib.Core.List.{List, [], _∷_, _++_}
 use native.Mathlib.Omega.{arith}
 use lib.ListN.{length, getD, set, length-set}
 use lib.Seq.{getD-set-same, getD-set-other}
+use Rattle.tables.specs.Tables.{mostPeople}
 use Rattle.record.specs.declared.record.Record.{Record}
 use Rattle.phases.specs.declared.table.Kind.{Kind}
 use Rattle.phases.specs.declared.table.Kind.the-variants.{Card, Decide, Passed}
@@ -79,12 +80,11 @@ stands destination p (e ∷ es) place h =
 pub put-by-passages : (r : Record) → Fresh r → (rows : List StepRow) → PutByPassages r rows
 put-by-passages r f rows =
     let places : lastOf r rows .place ≡ placesBy (r .destination) (r .place) (recordedIn r rows) = all-moved (all-served r f rows) in
-    let outside : (p : ℕ) → getD (r .place) p 0 ≡ 0 = λ p. ap (λ (x : Record). getD (x .place) p 0) (f .fresh) ∙ zeros-at 64 p in
+    let outside : (p : ℕ) → getD (r .place) p 0 ≡ 0 = λ p. ap (λ (x : Record). getD (x .place) p 0) (f .fresh) ∙ zeros-at mostPeople p in
     record {
       places = places;
       each = λ p h.
           let most = f .sound .tables .in-range .people-to in
-          let long = f .shaped .places in
           rw places
           (subst (λ (l : ℕ). StandsBy (r .destination) p l (recordedIn r rows) (getD (placesBy (r .destination) (r .place) (recordedIn r rows)) p 0)) (outside p)
           (stands (r .destination) p (recordedIn r rows) (r .place) (omega arith)));

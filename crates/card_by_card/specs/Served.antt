@@ -11,7 +11,7 @@ use Rattle.phases.specs.declared.answer.Answer.the-variants.{Done}
 use Rattle.record.specs.declared.steps.Step.{Step}
 use Rattle.phases.specs.Phase.{granted, denied}
 use Rattle.door.specs.Door.{freeDoor}
-use Rattle.record.specs.Doors.{doorOf, freshRecord, Shaped}
+use Rattle.record.specs.Doors.{planOf, doorOf, freshRecord, Shaped}
 use Rattle.record.specs.Sound.{Sound}
 use Rattle.phases.specs.Kinds.{StepRow, namesPerson}
 use Rattle.record.specs.Run.{rowOf, lastOf}
@@ -22,7 +22,7 @@ use Rattle.card_by_card.specs.Serving.{recordedIn, servedAs, stepAt, car
 
 -- A fresh record: "with everyone in 0 and every door free", of tables that are lawful and 0 beyond the counts, so that it is sound.
 pub record Fresh (r : Record) : Type 0 where
-  pub fresh : r ≡ freshRecord (r .people) (r .locations) (r .doors) (r .origin) (r .destination) (r .exit) (r .right)
+  pub fresh : r ≡ freshRecord (planOf r) (r .right)
   pub shaped : Shaped r
   pub sound : Sound r
 

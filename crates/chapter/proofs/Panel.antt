@@ -9,12 +9,12 @@ use Rattle.phases.specs.declared.table.Kind.{Kind}
 use Rattle.phases.specs.declared.answer.Answer.{Answer}
 use Rattle.phases.specs.declared.answer.Answer.the-variants.{Done, NoSuch, NotAllowed, TooShort, Unsound}
 use Rattle.phases.specs.Answers.{answerNo}
-use Rattle.record.specs.Doors.{Tables, tablesOf, Shaped}
+use Rattle.record.specs.Doors.{Shaped}
 use Rattle.record.specs.Sound.{Sound}
 use Rattle.record.specs.Steps.{stepOf}
 use Rattle.record.specs.Run.{rowOf, lastOf}
 use Rattle.phases.specs.Kinds.{StepRow}
-use Rattle.record.proofs.Laws.{refused-stays, sound-stays, shaped-stays, tables-stay}
+use Rattle.record.proofs.Laws.{refused-stays, sound-stays, shaped-stays, plan-stays, rights-stay}
 use Rattle.chapter.specs.Context.{Constants, Axioms}
 use Rattle.chapter.specs.Machines.{Same, MachineStep, event, skip, Run, stop, step, Keeps}
 use Rattle.chapter.specs.M0 as m0
@@ -67,14 +67,18 @@ one-step r k d p sh s = ⊎-elim (λ done. acts (enabled r sh s d p k done)) sta
     stays : (stepOf r k d p .answer ≡ Done → ⊥) → MachineStep (m4.machine (constantsOf r)) (stateOf r) (stateOf (stepOf r k d p .next))
     stays ne = skip (subst (λ (x : Record). Same (stateOf x) (stateOf r)) (sym (refused-stays r k d p ne)) (same-refl (stateOf r)))
 
+-- a step leaves the constants as they were
+constants-stay : (r : Record) (k : Kind) (d p : ℕ) → constantsOf (stepOf r k d p .next) ≡ constantsOf r
+constants-stay r k d p = λ i. constantsIn (plan-stays r k d p i) (rights-stay r k d p i)
+
 run4 : (r : Record) (rows : List StepRow) → Shaped r → Sound r → Run (m4.machine (constantsOf r)) (stateOf r) (stateOf (lastOf r rows))
 unfolding lastOf
 run4 r [] sh s = stop
 run4 r (row ∷ rows) sh s =
     let k = row .kind in
     step (one-step r k (row .at) (row .person) sh s)
-    (subst (λ (t : Tables). Run (m4.machine (constantsIn t)) (stateOf (rowOf r row .next)) (stateOf (lastOf (rowOf r row .next) rows)))
-    (tables-stay r k (row .at) (row .person))
+    (subst (λ (c : Constants). Run (m4.machine c) (stateOf (rowOf r row .next)) (stateOf (lastOf (rowOf r row .next) rows)))
+    (constants-stay r k (row .at) (row .person))
     (run4 (rowOf r row .next) rows (shaped-stays r k (row .at) (row .person) sh) (sound-stays r k (row .at) (row .person) sh s)))
 
 pub runs : (r : Record) (rows : List StepRow) → Shaped r → Sound r → RunOfEach r rows
@@ -99,10 +103,10 @@ runs r rows sh s = record { fourth = fourth; third = third; second = second; fir
     initial = run-seen (M0-keeps _ ax) (M1-refines-M0 _ ax) (all-of r s .0 .0 .0, tt) first
 
 -- the record after a list of steps
-pub last-sound : (r : Record) (rows : List StepRow) → Shaped r → Sound r → Shaped (lastOf r rows) × Sound (lastOf r rows) × (tablesOf (lastOf r rows) ≡ tablesOf r)
+pub last-sound : (r : Record) (rows : List StepRow) → Shaped r → Sound r → Shaped (lastOf r rows) × Sound (lastOf r rows) × (constantsOf (lastOf r rows) ≡ constantsOf r)
 unfolding lastOf
 last-sound r [] sh s = (sh, s, refl)
 last-sound r (row ∷ rows) sh s =
     let k = row .kind in
     let on = last-sound (rowOf r row .next) rows (shaped-stays r k (row .at) (row .person) sh) (sound-stays r k (row .at) (row .person) sh s) in
-    (on .0, on .1, on .2 ∙ tables-stay r k (row .at) (row .person))
+    (on .0, on .1, on .2 ∙ constants-stay r k (row .at) (row .person))

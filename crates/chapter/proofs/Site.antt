@@ -10,12 +10,13 @@ use native.Mathlib.Omega.{arith}
 use borrow.Author.Tests.{eqb-true, ltb-true}
 use lib.ListN.{getD}
 use lib.Dec.{eqb, ltb}
-use Rattle.tables.specs.Tables.{mayBe, orElse, andAlso}
+use Rattle.tables.specs.Tables.{mayBe, orElse, andAlso, mostLocations}
 use Rattle.tables.specs.Way.{Way, outside, onward, wayOf}
 use Rattle.tables.specs.Rules.{SafeWay}
 use Rattle.tables.proofs.Laws.{and-left, and-right, clash, may-be-outside}
 use Rattle.tables.proofs.WayOut.{way-is-safe}
 use Rattle.record.specs.declared.record.Record.{Record}
+use Rattle.record.specs.Doors.{planOf}
 use Rattle.record.specs.Sound.{Sound, rightAt}
 use Rattle.tables.proofs.Cases.{same-or-not, below-or-not}
 use Rattle.chapter.specs.Sets.{Set, only, _∖_, _⊆_}
@@ -27,7 +28,7 @@ pub may-exists : (r : Record) → Sound r → (p l : ℕ) → mayBe (r .right) p
 unfolding mayBe orElse
 may-exists r s p l may = ⊎-elim (λ is. let low = s .tables .in-range .locations-from in omega arith) other (same-or-not l 0)
   where
-    right : (b : Bool) → eqb l 0 ≡ b → (l ≡ 0 → ⊥) → orElse b (andAlso (ltb l 32) (rightAt (r .right) p l)) ≡ true → andAlso (ltb l 32) (rightAt (r .right) p l) ≡ true
+    right : (b : Bool) → eqb l 0 ≡ b → (l ≡ 0 → ⊥) → orElse b (andAlso (ltb l mostLocations) (rightAt (r .right) p l)) ≡ true → andAlso (ltb l mostLocations) (rightAt (r .right) p l) ≡ true
     right true e ne h = absurd (ne (eqb-true l 0 e))
     right false e ne h = h
 
@@ -35,7 +36,7 @@ may-exists r s p l may = ⊎-elim (λ is. let low = s .tables .in-range .locatio
     other ne =
         let both = right (eqb l 0) refl ne may in
         ⊎-elim (λ h. h)
-        (λ h. clash (and-right (ltb l 32) _ both) (s .zero-tables .rights-to p l h (ltb-true l 32 (and-left _ _ both))))
+        (λ h. clash (and-right (ltb l mostLocations) _ both) (s .zero-tables .rights-to p l h (ltb-true l mostLocations (and-left _ _ both))))
         (below-or-not l (r .locations))
 
 pub axioms : (r : Record) → Sound r → Axioms (constantsOf r)
@@ -54,9 +55,9 @@ axioms r s =
       axm1-2 = λ l m d is. s .tables .in-range .no-loop (d .door) (d .exists) (d .starts ∙ is ∙ sym (d .ends));
       axm1-3 = λ l h. s .tables .in-range .exits l (h .0);
       axm1-4 = no-circle;
-      axm1-5 = λ l h. s .tables .exit-door l (pos-of-ne-zero (h .1)) (h .0);
+      axm1-5 = λ l h. s .tables .exit-door l (h .0) (pos-of-ne-zero (h .1));
       axm1-6 = λ p l a ne.
-          (a .0, s .tables .in-range .exits l (a .1), s .tables .exit-right p l (a .0) (pos-of-ne-zero ne) (a .1) (a .2));
+          (a .0, s .tables .in-range .exits l (a .1), s .tables .exit-right p (a .0) l (a .1) (pos-of-ne-zero ne) (a .2));
       axm1-7 = λ p h. let f = s .tables .first p h in (f .location, (h, may-exists r s p (f .location) (f .may), f .may), f .door);
       axm2-1 = s .tables .in-range .origins;
       axm2-2 = s .tables .in-range .destinations;
@@ -86,7 +87,7 @@ module _ (c : Constants) (ax : Axioms c) where
   pub saf-1 : (sit : ℕ → ℕ) → ((p : ℕ) → c .P p → c .aut p (sit p)) → SAF-1 c sit
   saf-1 sit placed p h = saf-2 p (sit p) (placed p h)
 
-leads : (r : Record) → Sound r → (p : ℕ) → p < r .people → {l : ℕ} {way : List ℕ} → SafeWay (r .doors) (r .origin) (r .destination) (r .right) p l way
+leads : (r : Record) → Sound r → (p : ℕ) → p < r .people → {l : ℕ} {way : List ℕ} → SafeWay (planOf r) (r .right) p l way
     → Leads (constantsOf r) p l way
 leads r s p h SafeWay.outside = Leads.outside
 leads r s p h (SafeWay.onward {l} {m} door may rest) = Leads.onward (h, may-exists r s p m may, may) door (leads r s p h rest)

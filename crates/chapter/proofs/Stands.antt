@@ -7,7 +7,7 @@ use mathlib.Core.List.{List}
 use native.Mathlib.Omega.{arith}
 use borrow.Author.Tests.{eqb-true, eq-eqb}
 use lib.ListN.{getD}
-use Rattle.tables.specs.Tables.{orElse, andAlso}
+use Rattle.tables.specs.Tables.{Plan, orElse, andAlso}
 use Rattle.door.specs.declared.Door.{Door}
 use Rattle.record.specs.declared.record.Record.{Record}
 use Rattle.phases.specs.declared.table.Kind.{Kind}
@@ -93,24 +93,24 @@ some-event r sh s d h = ⊎-elim (λ is. (CARD 0 d, (s .tables .in-range .people
 
 -- ---- the fresh record
 
-module _ (people locations doors : ℕ) (origin destination exit : List ℕ) (right : List Bool) where
+module _ (site : Plan) (right : List Bool) where
   none-in : (X : Sets) → isIn X free ≡ false
   unfolding isIn orElse
   none-in = each _ refl refl refl refl refl refl refl refl refl
 
-  pub fresh-starts : m4.Start (constantsOf (freshRecord people locations doors origin destination exit right)) (stateOf (freshRecord people locations doors origin destination exit right))
+  pub fresh-starts : m4.Start (constantsOf (freshRecord site right)) (stateOf (freshRecord site right))
   unfolding grants andAlso
   fresh-starts =
       record {
-        sit = λ p _. fresh-outside people locations doors origin destination exit right p;
+        sit = λ p _. fresh-outside site right p;
         sets = λ X d i. false≢true (sym (none-in X) ∙ subst (λ (x : ℕ). isIn X x ≡ true) (at d) (i .phase));
         maps = maps;
       }
     where
-      at : (d : ℕ) → getD (freshRecord people locations doors origin destination exit right .phase) d 0 ≡ free
-      at d = ap (λ (x : Door). x .phase) (fresh-free people locations doors origin destination exit right d)
+      at : (d : ℕ) → getD (freshRecord site right .phase) d 0 ≡ free
+      at d = ap (λ (x : Door). x .phase) (fresh-free site right d)
 
-      maps : (f : Maps) (x y : ℕ) → stateOf (freshRecord people locations doors origin destination exit right) .map f x y → ⊥
+      maps : (f : Maps) (x y : ℕ) → stateOf (freshRecord site right) .map f x y → ⊥
       maps dap x y g = false≢true (subst (λ (z : ℕ). grants z ≡ true) (at y) (g .holds))
       maps mCard x y g = omega (arith, sym (at x) ∙ g .phase)
 

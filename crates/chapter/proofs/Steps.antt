@@ -12,7 +12,7 @@ use Rattle.record.specs.declared.record.Record.{Record}
 use Rattle.phases.specs.declared.table.Kind.{Kind}
 use Rattle.phases.specs.declared.table.Kind.the-variants.{Card, Decide, Green, Red, Walk, Tick, Passed, Lapsed, Dark, Ack, Unknown}
 use Rattle.phases.specs.declared.answer.Answer.the-variants.{Done}
-use Rattle.phases.specs.Phase.{free, read, granted, green, walked, expired, denied, red, dimmed, closed, grants, keeps}
+use Rattle.phases.specs.Phase.{free, read, granted, green, walked, expired, denied, red, dimmed, closed, greenSpan, redSpan, grants, keeps}
 use Rattle.door.specs.Door.{door, freeDoor}
 use Rattle.record.specs.Doors.{doorOf, Shaped}
 use Rattle.phases.specs.Kinds.{allows, namesPerson, numberOfKind}
@@ -23,7 +23,7 @@ use Rattle.record.specs.Steps.{reasonFor, Admitted, doing, stepOf}
 use Rattle.tables.proofs.Cases.{same-or-not, one-of}
 use Rattle.record.proofs.Tells.{sound-tells}
 use Rattle.record.proofs.Right.{admitted, admits}
-use Rattle.record.proofs.Laws.{Allowed, allowed-does, act-done, done-did, tables-stay, others-stay, places-stay, passed-moves, becomes, door-after, tick-done}
+use Rattle.record.proofs.Laws.{Allowed, allowed-does, act-done, done-did, plan-stays, others-stay, places-stay, passed-moves, becomes, door-after, tick-done}
 use Rattle.chapter.specs.Sets.{Set}
 use Rattle.chapter.specs.Machines.{State, Same}
 use Rattle.chapter.specs.M2.{Acceptable}
@@ -74,7 +74,7 @@ module _ (r : Record) (sh : Shaped r) (s : Sound r) (d p : ℕ) where
 
   turned : (k : Kind) → stepOf r k d p .answer ≡ Done → (c : Door) → becomes (doorOf r d) (doing r k d p) ≡ c → Turned r (stepOf r k d p .next) d c
   turned k done c to =
-      record { tables = tables-stay r k d p; there = door-after r k d p sh s done ∙ to; others = λ e ne. others-stay r k d p e ne }
+      record { plan = plan-stays r k d p; there = door-after r k d p sh s done ∙ to; others = λ e ne. others-stay r k d p e ne }
 
   -- nobody moves but at `passed`
   still : (k : Kind) → eqb (numberOfKind k) (numberOfKind Passed) ≡ false → (q : ℕ) → getD (stepOf r k d p .next .place) q 0 ≡ getD (r .place) q 0
@@ -158,7 +158,7 @@ module _ (r : Record) (sh : Shaped r) (s : Sound r) (d p : ℕ) where
   by-green g =
       let h = g .exists in
       let done = does Green h no-way (g .phase) in
-      let c = door green (getD (r .holder) d 0) 300 in (
+      let c = door green (getD (r .holder) d 0) greenSpan in (
         done,
         ⊎-elim
             (λ at.
@@ -175,7 +175,7 @@ module _ (r : Record) (sh : Shaped r) (s : Sound r) (d p : ℕ) where
   by-red g =
       let h = g .exists in
       let done = does Red h no-way (g .phase) in
-      let c = door red (getD (r .holder) d 0) 20 in (
+      let c = door red (getD (r .holder) d 0) redSpan in (
         done,
         ⊎-elim
             (λ at.

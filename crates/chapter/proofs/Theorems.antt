@@ -26,7 +26,8 @@ use Rattle.record.specs.declared.record.Record.{Record}
 use Rattle.phases.specs.declared.table.Kind.{Kind}
 use Rattle.phases.specs.declared.table.Kind.the-variants.{Decide}
 use Rattle.phases.specs.declared.answer.Answer.the-variants.{Done}
-use Rattle.record.specs.Doors.{Tables, freshRecord, Shaped}
+use Rattle.tables.specs.Tables.{Plan}
+use Rattle.record.specs.Doors.{freshRecord, Shaped}
 use Rattle.record.specs.Sound.{Sound}
 use Rattle.record.specs.Steps.{stepOf}
 use Rattle.record.specs.Run.{lastOf}
@@ -41,7 +42,7 @@ use Rattle.chapter.specs.M2 as m2
 use Rattle.chapter.specs.M3 as m3
 use Rattle.chapter.specs.M3.{dap}
 use Rattle.chapter.specs.M4 as m4
-use Rattle.chapter.specs.Reading.{constantsIn, constantsOf, stateOf, StandsFor, Enabled, Idle, FirstFailing, RunOfEach}
+use Rattle.chapter.specs.Reading.{constantsOf, stateOf, StandsFor, Enabled, Idle, FirstFailing, RunOfEach}
 use Rattle.chapter.proofs.Site.{axioms, saf-1, saf-2, saf-3, way-leads}
 use Rattle.chapter.proofs.Steps.{follows, enabled, ticks}
 use Rattle.chapter.proofs.Stands.{stands-once, idle-stands, some-event, fresh-starts, first-failing}
@@ -52,8 +53,7 @@ use Rattle.chapter.proofs.Panel as panel
 
 -- The fresh record reads as the initial state: "Initially, everyone is outside", no light is lit, no reader is blocked and no
 -- message is under way.
-pub fresh-reads : (people locations doors : ℕ) (origin destination exit : List ℕ) (right : List Bool)
-    → m4.Start (constantsOf (freshRecord people locations doors origin destination exit right)) (stateOf (freshRecord people locations doors origin destination exit right))
+pub fresh-reads : (site : Plan) (right : List Bool) → m4.Start (constantsOf (freshRecord site right)) (stateOf (freshRecord site right))
 fresh-reads = fresh-starts
 
 -- A step is done exactly when the event that it stands for is enabled, or it is a tick that stands for nothing.
@@ -132,7 +132,7 @@ pub nobody-astray : (r : Record) → Shaped r → Sound r → (rows : List StepR
 nobody-astray r sh s rows p h =
     let after = panel.last-sound r rows sh s in
     let there = invariants-hold (lastOf r rows) (after .1) .0 .0 .0 .inv0-2 in
-    subst (λ (t : Tables). (q : ℕ) → constantsIn t .P q → constantsIn t .aut q (stateOf (lastOf r rows) .sit q)) (after .2) there p h
+    subst (λ (c : Constants). (q : ℕ) → c .P q → c .aut q (stateOf (lastOf r rows) .sit q)) (after .2) there p h
 
 -- SAF-1: "No persons must remain blocked in a location", after any list of steps.
 pub nobody-blocked : (r : Record) → Shaped r → Sound r → (rows : List StepRow) → SAF-1 (constantsOf r) (stateOf (lastOf r rows) .sit)

@@ -9,7 +9,8 @@ use lib.Dec.{eqb}
 use Rattle.door.specs.declared.Door.{Door}
 use Rattle.record.specs.declared.record.Record.{Record}
 use Rattle.phases.specs.Phase.{read, grants}
-use Rattle.record.specs.Doors.{Tables, tablesOf, doorOf}
+use Rattle.tables.specs.Tables.{Plan}
+use Rattle.record.specs.Doors.{planOf, doorOf}
 use Rattle.granting.specs.Grants.{GrantAt}
 use Rattle.tables.proofs.Cases.{same-or-not}
 use Rattle.chapter.specs.Sets.{Set, Relation, only, _∪_, _∖_, _≐_}
@@ -140,12 +141,12 @@ maps-same {d} {b} {c} {h} {k} {u} {v} s t bs hs q e =
 
 -- next is r but for door d, which is c now, and for people's places
 pub record Turned (r next : Record) (d : ℕ) (c : Door) : Type 0 where
-  pub tables : tablesOf next ≡ tablesOf r
+  pub plan : planOf next ≡ planOf r
   pub there : doorOf next d ≡ c
   pub others : (e : ℕ) → (e ≡ d → ⊥) → doorOf next e ≡ doorOf r e
 
 pub unturned : (r : Record) (d : ℕ) → Turned r r d (doorOf r d)
-unturned r d = record { tables = refl; there = refl; others = λ e ne. refl }
+unturned r d = record { plan = refl; there = refl; others = λ e ne. refl }
 
 -- the doors of a record by their cells alone
 cell-in : (r : Record) (X : Sets) (e : ℕ) (c : Door) → doorOf r e ≡ c → DoorIn r X e ↔ ((e < r .doors) × (isIn X (c .phase) ≡ true))
@@ -169,7 +170,7 @@ cells-card r q e c is =
 
 module _ (r next : Record) (d : ℕ) (c : Door) (t : Turned r next d c) (h : d < r .doors) where
   as-many : next .doors ≡ r .doors
-  as-many = ap (λ (x : Tables). x .doors) (t .tables)
+  as-many = ap (λ (site : Plan). site .doors) (t .plan)
 
   pub read-sets : (ph : ℕ) → c .phase ≡ ph → At (DoorIn r) d (λ X. isIn X ph) (DoorIn next)
   read-sets ph is =

@@ -6,13 +6,13 @@ use mathlib.Core.Bool.{Bool, true, not}
 use mathlib.Core.List.{List}
 use lib.ListN.{getD}
 use lib.Dec.{eqb}
-use Rattle.tables.specs.Tables.{mayBe, orElse}
+use Rattle.tables.specs.Tables.{Plan, mayBe, orElse}
 use Rattle.tables.specs.Rules.{DoorFrom}
 use Rattle.record.specs.declared.record.Record.{Record}
 use Rattle.phases.specs.declared.table.Kind.{Kind}
 use Rattle.phases.specs.declared.table.Kind.the-variants.{Card, Decide, Green, Red, Walk, Tick, Passed, Lapsed, Dark, Ack}
 use Rattle.phases.specs.Phase.{free, read, granted, green, walked, expired, denied, red, dimmed, closed}
-use Rattle.record.specs.Doors.{Tables, tablesOf}
+use Rattle.record.specs.Doors.{planOf}
 use Rattle.granting.specs.Grants.{GrantAt}
 use Rattle.record.specs.Run.{lastOf}
 use Rattle.phases.specs.Kinds.{StepRow}
@@ -32,22 +32,22 @@ use Rattle.chapter.specs.M4 as m4
 -- ---- the constants of a site
 
 -- "All are numbered from 0. Location 0 is outside."
-abbrev pub constantsIn : Tables → Constants
-constantsIn t =
+abbrev pub constantsIn : Plan → List Bool → Constants
+constantsIn site right =
     record {
-      P = λ p. p < t .people;
-      L = λ l. l < t .locations;
-      D = λ d. d < t .doors;
-      aut = λ p l. (p < t .people) × (l < t .locations) × (mayBe (t .right) p l ≡ true);
+      P = λ p. p < site .people;
+      L = λ l. l < site .locations;
+      D = λ d. d < site .doors;
+      aut = λ p l. (p < site .people) × (l < site .locations) × (mayBe right p l ≡ true);
       out = 0;
-      «com» = DoorFrom (t .doors) (t .origin) (t .destination);
-      exit = λ l. getD (t .exit) l 0;
-      org = λ d. getD (t .origin) d 0;
-      dst = λ d. getD (t .destination) d 0;
+      «com» = DoorFrom site;
+      exit = λ l. getD (site .exit) l 0;
+      org = λ d. getD (site .origin) d 0;
+      dst = λ d. getD (site .destination) d 0;
     }
 
 abbrev pub constantsOf : Record → Constants
-constantsOf r = constantsIn (tablesOf r)
+constantsOf r = constantsIn (planOf r) (r .right)
 
 -- ---- the state of a record
 

@@ -17,29 +17,27 @@ use Rattle.grammar.specs.declared.cut.FieldCut.{FieldCut}
 use Rattle.grammar.specs.declared.cut.FieldCut.the-variants.{Next, Last, Fault}
 use Rattle.grammar.specs.declared.cut.RowCut.{RowCut}
 use Rattle.grammar.specs.declared.cut.RowCut.the-variants.{Cut, NoRow, Broken}
-use Rattle.grammar.specs.declared.say.Number.the-variants.{Is, None}
 use Rattle.grammar.specs.Grammar.{Field, bare, quoted, fieldText, comma, cr, lf}
 use Rattle.grammar.specs.Cut.{emptyAt, cutField, cutRow}
 use Rattle.grammar.specs.Where.{cellOf, CellHolds}
 use Rattle.grammar.specs.Rows.{onRow, readRows, rowsFrom, countFrom, countRows}
-use Rattle.grammar.specs.Say.{valueFrom, ProperNumber, contentAt, sameBytes, isWord, saysWords, numberAt}
-use Rattle.grammar.specs.Say as say
+use Rattle.grammar.specs.Say.{contentAt, sameBytes, isWord, saysWords}
 use Rattle.grammar.proofs.Steps.{FieldIn, field-in, cut-within}
 use Rattle.grammar.proofs.Found.{FieldFound, with-crlf, with-sheet}
 use Rattle.grammar.proofs.Reading.{cut-behind, cut-there}
-use Rattle.grammar.proofs.Saying.{same-true, read-proper}
+use Rattle.grammar.proofs.Saying.{same-true, number-small}
 use Rattle.grammar.proofs.Theorems.{found-is-row, found-is-field, field-before-comma, field-before-crlf, field-before-end}
-use Rattle.tables.specs.Tables.{orElse, andAlso, mayBe, mostLocations}
+use Rattle.tables.specs.Tables.{orElse, andAlso, mayBe, mostLocations, mostDoors}
 use Rattle.tables.specs.Below.{Tells}
 use Rattle.tables.specs.declared.Found.{Found}
 use Rattle.tables.specs.declared.Found.the-variants.{At, Nothing}
 use Rattle.tables.specs.declared.RightFound.{RightFound}
 use Rattle.tables.specs.declared.RightFound.the-variants as pair
-use Rattle.tables.specs.Tests.{lacksExit, firstNoExit, strays, firstStray, lacksDoor, firstNoDoor, firstNoRight, shutOut, firstShutOut, countsFit, planInRange, lawfulB}
+use Rattle.tables.specs.Tests.{lacksExit, firstNoExit, strays, firstStray, firstNoDoor, firstNoRight, firstShutOut, countsFit, planInRange, lawfulB}
 use Rattle.tables.specs.Way.{wayOf, ifRoom, wayToldIn, wayWrittenIn}
 use Rattle.tables.proofs.Laws.{and-left, and-right, and-both, clash, least-at, may-be-outside, tell-le, tell-and, tell-as}
-use Rattle.tables.proofs.Answers.{in-range-tells, rule-9, lawful-tells}
-use Rattle.tables.proofs.WayOut.{way-at-most-31}
+use Rattle.tables.proofs.Answers.{in-range-tells, rule-8, rule-9, rule-10, lawful-tells}
+use Rattle.tables.proofs.WayOut.{way-at-most}
 use Rattle.record.specs.declared.record.Record.{Record}
 use Rattle.phases.specs.declared.table.Kind.{Kind}
 use Rattle.phases.specs.declared.table.Kind.the-variants.{Card, Decide, Green, Red, Walk, Tick, Passed, Lapsed, Dark, Ack, Unknown}
@@ -70,7 +68,8 @@ use Rattle.site_sheet.specs.declared.SiteRead.{SiteRead}
 use Rattle.site_sheet.specs.declared.Reading.{Reading}
 use Rattle.site_sheet.specs.declared.Draft.{Draft}
 use Rattle.site_sheet.specs.Line.{siteHeaderAt}
-use Rattle.site_sheet.specs.Site.{soundFault, firstPlace, secondPlace, blankRecord, acceptedSite, unlessFound, unlessPair, judged, settled, afterHeader, siteOf}
+use Rattle.site_sheet.specs.Draft.{planIn}
+use Rattle.site_sheet.specs.Site.{soundFault, firstPlace, secondPlace, blankRecord, acceptedSite, unlessFound, unlessPair, judged, settled, afterHeader, siteAt, siteOf}
 use Rattle.grammar.specs.Sizes.{limit}
 use Rattle.site_sheet.specs.Site as site
 use Rattle.site_sheet.proofs.Theorems.{given-exactly}
@@ -158,28 +157,6 @@ count-told : (s : List ℕ) → CountTold s (countRows s)
 unfolding countRows rowsFrom
 count-told s = rows-told s (suc (length s - 0)) 0 0 (omega arith) (omega arith)
 
--- three digits make at most 999
-small : (c : List ℕ) (n : ℕ) → ProperNumber c n → n ≤ 999
-unfolding valueFrom
-small [] n p = let v = p .value in omega arith
-small (x ∷ []) n p = let v = p .value in let a = p .digits 0 (omega arith) in omega arith
-small (x ∷ y ∷ []) n p = let v = p .value in let a = p .digits 0 (omega arith) in let b = p .digits 1 (omega arith) in omega arith
-small (x ∷ y ∷ z ∷ []) n p =
-    let v = p .value in
-    let a = p .digits 0 (omega arith) in
-    let b = p .digits 1 (omega arith) in
-    let c = p .digits 2 (omega arith) in
-    omega arith
-small (x ∷ y ∷ z ∷ w ∷ more) n p = let few = p .few in absurd (omega arith)
-
-number-small : (s : List ℕ) (cell : Cell) (n : ℕ) → numberAt s cell ≡ Is n → n ≤ 999
-unfolding numberAt
-number-small s cell n = go (cell .doubled)
-  where
-    go : (b : Bool) → cond b None (say.numberIn (contentAt s cell)) ≡ Is n → n ≤ 999
-    go true e = let z : _≡_ {A = ℕ} 0 1 = cc in absurd (omega arith)
-    go false e = small (contentAt s cell) n (read-proper (contentAt s cell) e)
-
 word-told : (s : List ℕ) (cell : Cell) (word : List ℕ) → isWord s cell word ≡ true → contentAt s cell ≡ word
 unfolding isWord
 word-told s cell word = go (cell .doubled)
@@ -212,13 +189,13 @@ of-sheet =
       row-at = λ s at. row-told s at (cutRow s at) refl;
       is-word = word-told;
       says-words = words-told;
-      number-of = number-small;
+      number-of = λ s cell n e. number-small s cell e;
     }
 
 -- ---- crate `rules`
 
 -- a way is told and written where the list has room for it, and else neither
-way-tells : (way list : List ℕ) → length way ≤ 31 → WayTells way list
+way-tells : (way list : List ℕ) → length way ≤ mostLocations - 1 → WayTells way list
 unfolding wayToldIn wayWrittenIn ifRoom
 way-tells way list most =
     record {
@@ -233,19 +210,18 @@ unfolding mayBe orElse andAlso
 no-right-past right p l h = rw (ne-eqb l 0 (λ e. omega arith), le-ltb l mostLocations h)
 
 pub of-rules : RulesAnswers
-unfolding firstNoExit firstStray firstNoDoor firstShutOut
+unfolding firstNoExit firstStray
 of-rules =
     record {
       may-be = λ right p l. (may-be-outside right p, no-right-past right p l);
       in-range = in-range-tells;
       first-no-exit = λ locations given l e. least-at (lacksExit given) locations l e .0;
       first-stray = λ locations exit l e. least-at (strays locations exit) locations l e .0;
-      first-no-door = λ locations doors origin destination exit l e. least-at (lacksDoor doors origin destination exit) locations l e .0;
-      first-no-right = λ people locations exit right p l e.
-          let at = rule-9 people locations exit right .at-yes p l e in (at .person, at .location .exists);
-      first-shut-out = λ people doors origin destination right p e. least-at (shutOut doors origin destination right) people p e .0;
+      first-no-door = λ site l e. rule-8 site .at-yes l e .exists;
+      first-no-right = λ site right p l e. let at = rule-9 site right .at-yes p l e in (at .person, at .location .exists);
+      first-shut-out = λ site right p e. rule-10 site right .at-yes p e .exists;
       lawful = lawful-tells;
-      way-out = λ locations exit from list. way-tells (wayOf locations exit from) list (way-at-most-31 locations exit from);
+      way-out = λ locations exit from list. way-tells (wayOf locations exit from) list (way-at-most locations exit from);
     }
 
 -- ---- crate `record`: a step
@@ -268,7 +244,7 @@ exist-tells r k d p =
     person false h = refl
 
 -- the phase that a step tells is the door's afterwards
-act-phase : (r : Record) → Shaped r → (d : ℕ) → d < 64 → (x : Does) → act r d x .phase ≡ getD (act r d x .next .phase) d 0
+act-phase : (r : Record) → Shaped r → (d : ℕ) → d < mostDoors → (x : Does) → act r d x .phase ≡ getD (act r d x .next .phase) d 0
 unfolding act
 act-phase r sh d h Stays = refl
 act-phase r sh d h (Turns c why) = sym (ap (λ (x : Door). x .phase) (put-same r sh d c h))
@@ -560,9 +536,9 @@ unfolding judged
 judged-blank d =
     found-blank (firstNoExit (d .locations) (d .given)) NoExit _
     (found-blank (firstStray (d .locations) (d .exit)) Stray _
-    (found-blank (firstNoDoor (d .locations) (d .doors) (d .origin) (d .destination) (d .exit)) NoDoor _
-    (pair-blank (firstNoRight (d .people) (d .locations) (d .exit) (d .right)) NoRight _
-    (found-blank (firstShutOut (d .people) (d .doors) (d .origin) (d .destination) (d .right)) ShutOut (acceptedSite d)
+    (found-blank (firstNoDoor (planIn d)) NoDoor _
+    (pair-blank (firstNoRight (planIn d) (d .right)) NoRight _
+    (found-blank (firstShutOut (planIn d) (d .right)) ShutOut (acceptedSite d)
     (λ no-way. absurd (no-way refl))))))
 
 settled-blank : (x : Reading) → Blank (settled x)
@@ -577,7 +553,7 @@ header-blank s NoRow some = refl
 header-blank s (Broken byte) some = refl
 
 site-blank : (s : List ℕ) → Blank (siteOf s)
-unfolding siteOf
+unfolding siteAt
 site-blank s some = either Blank (ltb limit (length s)) (λ _ _. refl) (λ _. header-blank s (cutRow s 0)) some
 
 -- which isn't sound: it has no people
@@ -589,7 +565,7 @@ site-tells : (s : List ℕ) → SiteTells s
 site-tells s =
     record {
       number = number-most (siteOf s .verdict);
-      exactly = given-exactly s;
+      exactly = given-exactly limit s;
       no-record = λ some. let e = site-blank s some in (e, λ t. blank-unsound (rw e at t));
     }
 

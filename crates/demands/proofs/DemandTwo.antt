@@ -10,7 +10,7 @@ use borrow.Author.Tests.{eqb-true, eqb-false, ltb-true, ne-eqb, lt-ltb, le-leb}
 use lib.ListN.{length, getD, drop}
 use lib.Seq.{set-getD}
 use lib.Dec.{eqb, ltb}
-use Rattle.tables.specs.Tables.{orElse, andAlso}
+use Rattle.tables.specs.Tables.{Plan, orElse, andAlso}
 use Rattle.tables.proofs.Laws.{clash}
 use Rattle.tables.specs.Way.{wayOf, ifRoom, wayToldIn, wayWrittenIn}
 use Rattle.tables.proofs.WayOut.{the-way}
@@ -21,8 +21,8 @@ use Rattle.phases.specs.declared.table.Kind.the-variants.{Card, Decide, Green, 
 use Rattle.phases.specs.declared.answer.Answer.the-variants.{Done}
 use Rattle.record.specs.declared.steps.Step.{Step}
 use Rattle.phases.specs.declared.answer.WayAnswer.the-variants.{Length}
-use Rattle.phases.specs.Phase.{free, read, granted, green, walked, expired, denied, red, dimmed, closed}
-use Rattle.record.specs.Doors.{doorOf, Tables, putDoor, Shaped}
+use Rattle.phases.specs.Phase.{free, read, granted, green, walked, expired, denied, red, dimmed, closed, greenSpan, redSpan}
+use Rattle.record.specs.Doors.{doorOf, putDoor, Shaped}
 use Rattle.phases.specs.Kinds.{StepRow, allows, namesPerson}
 use Rattle.record.specs.Sound.{Sound}
 use Rattle.door.specs.declared.does.Does.{Does}
@@ -34,9 +34,11 @@ use Rattle.tables.proofs.Cases.{either}
 use Rattle.record.proofs.Ask.{place-is-location, way-out-safe, way-out-short}
 use Rattle.record.proofs.Right.{admitted}
 use Rattle.record.proofs.Tells.{sound-tells}
-use Rattle.record.proofs.Laws.{done-did, barred-12, act-done, becomes, door-after, sound-stays, shaped-stays, tables-stay, run-sound, run-shaped, run-tables}
+use Rattle.record.proofs.Laws.{done-did, barred-12, act-done, becomes, door-after, sound-stays, shaped-stays, plan-stays, run-sound, run-shaped, run-plan}
 use Rattle.record.proofs.Laws.{denied-first, granted-exactly, green-burns, green-expires, red-burns, red-dims}
 use Rattle.verdict.specs.declared.Verdict.the-variants.{Accepted}
+use Rattle.grammar.specs.Sizes.{limit}
+use Rattle.site_sheet.specs.Draft.{planIn}
 use Rattle.site_sheet.specs.Site.{siteOf}
 use Rattle.site_sheet.proofs.Theorems.{accepted-holds}
 use Rattle.chapter.proofs.Theorems.{fresh-reads, step-acts, step-follows, tick-idles, refusal-alters-nothing, stands-for-one, idle-stands-for-none, denial-first}
@@ -74,10 +76,10 @@ way-of r sh s p h =
 pub after-steps : (s : List ℕ) → siteOf s .verdict ≡ Accepted → (rows : List StepRow) (p : ℕ) → p < siteOf s .«record» .people
     → WayOutside (lastOf (siteOf s .«record») rows) p
 after-steps s e rows p h =
-    let a = accepted-holds s e in
+    let a = accepted-holds limit s e in
     let r = siteOf s .«record» in
     way-of (lastOf r rows) (run-shaped r rows (a .shaped)) (run-sound r rows (a .shaped) (a .sound)) p
-    (rw (ap (λ (t : Tables). t .people) (run-tables r rows)) h)
+    (rw (ap (λ (site : Plan). site .people) (run-plan r rows)) h)
 
 -- ---- a step and its event
 
@@ -96,10 +98,10 @@ is-event r sh s k d p =
 -- the record of an accepted sheet is fresh, and so reads as the initial state
 pub starts : (s : List ℕ) → siteOf s .verdict ≡ Accepted → m4.Start (constantsOf (siteOf s .«record»)) (stateOf (siteOf s .«record»))
 starts s e =
-    let a = accepted-holds s e in
+    let a = accepted-holds limit s e in
     let t = a .tables in
     subst (λ (r : Record). m4.Start (constantsOf r) (stateOf r)) (sym (a .fresh))
-    (fresh-reads (t .people) (t .locations) (t .doors) (t .origin) (t .destination) (t .exit) (t .right))
+    (fresh-reads (planIn t) (t .right))
 
 -- ---- a decision
 
@@ -137,7 +139,7 @@ denies r d p e no-way =
 
 -- a door that exists does so after any step
 door-stays : (r : Record) (k : Kind) (d p : ℕ) → stepOf r k d p .answer ≡ Done → d < stepOf r k d p .next .doors
-door-stays r k d p e = rw (ap (λ (t : Tables). t .doors) (tables-stay r k d p)) (done-did r k d p e .0 .a-door)
+door-stays r k d p e = rw (ap (λ (site : Plan). site .doors) (plan-stays r k d p)) (done-did r k d p e .0 .a-door)
 
 pub decided : (r : Record) → Shaped r → Sound r → (d p : ℕ) → stepOf r Decide d p .answer ≡ Done → Decided r d (stepOf r Decide d p)
 decided r sh s d p e =
@@ -247,8 +249,8 @@ module _ (r : Record) (sh : Shaped r) (s : Sound r) (d p : ℕ) where
       let there = door-stays r Green d p e in
       let now = door-after r Green d p sh s e in
       record {
-        burns = λ rows quiet few. green-burns next d (getD (r .holder) d 0) 300 rows sh′ s′ there now quiet few;
-        ends = λ rows quiet last q. green-expires next d (getD (r .holder) d 0) 300 q rows sh′ s′ there now quiet last;
+        burns = λ rows quiet few. green-burns next d (getD (r .holder) d 0) greenSpan rows sh′ s′ there now quiet few;
+        ends = λ rows quiet last q. green-expires next d (getD (r .holder) d 0) greenSpan q rows sh′ s′ there now quiet last;
       }
 
   pub red-counts : stepOf r Red d p .answer ≡ Done → RedCounts r d (stepOf r Red d p)
@@ -260,6 +262,6 @@ module _ (r : Record) (sh : Shaped r) (s : Sound r) (d p : ℕ) where
       let there = door-stays r Red d p e in
       let now = door-after r Red d p sh s e in
       record {
-        burns = λ rows quiet few. red-burns next d (getD (r .holder) d 0) 20 rows sh′ s′ there now quiet few;
-        ends = λ rows quiet last q. red-dims next d (getD (r .holder) d 0) 20 q rows sh′ s′ there now quiet last;
+        burns = λ rows quiet few. red-burns next d (getD (r .holder) d 0) redSpan rows sh′ s′ there now quiet few;
+        ends = λ rows quiet last q. red-dims next d (getD (r .holder) d 0) redSpan q rows sh′ s′ there now quiet last;
       }

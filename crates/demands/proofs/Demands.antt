@@ -12,6 +12,7 @@ use mathlib.Core.Path.{_≡_}
 use mathlib.Core.List.{List}
 use Rattle.phases.specs.Kinds.{StepRow}
 use Rattle.verdict.specs.declared.Verdict.the-variants.{Accepted}
+use Rattle.grammar.specs.Sizes.{limit}
 use Rattle.site_sheet.specs.Site.{siteOf}
 use Rattle.site_sheet.proofs.Theorems.{accepted-exactly, accepted-holds}
 use Rattle.chapter.proofs.Theorems.{constants-obey, panel-runs}
@@ -56,8 +57,8 @@ demand-1 =
 pub demand-2 : DemandTwo
 demand-2 =
     record {
-      accepted = accepted-exactly;
-      holds = accepted-holds;
+      accepted = accepted-exactly limit;
+      holds = accepted-holds limit;
       way-outside-of = way-of;
       way-outside = after-steps;
       step = is-event;

@@ -20,7 +20,7 @@ use Rattle.phases.specs.declared.answer.Answer.{Answer}
 use Rattle.phases.specs.declared.answer.Answer.the-variants.{Done, NoSuch, NotAllowed, TooShort, Unsound}
 use Rattle.record.specs.declared.steps.Step.{Step}
 use Rattle.phases.specs.Answers.{answerNo}
-use Rattle.record.specs.Doors.{doorOf, Shaped}
+use Rattle.record.specs.Doors.{planOf, doorOf, Shaped}
 use Rattle.phases.specs.Kinds.{StepRow, allows}
 use Rattle.record.specs.Sound.{Sound}
 use Rattle.record.specs.SoundTest.{soundB}
@@ -101,7 +101,7 @@ told-short r s k d p =
     either ToldShort (soundB r)
     (λ _. either ToldShort (exist r k d p)
     (λ _. either ToldShort (allows k (getD (r .phase) d 0))
-    (λ _. act-small r d _ (phase-known r s d) (effect-told k p _ (doorOf r d) (reason-small (r .doors) (r .origin) (r .destination) (r .right) (r .place) (r .phase) (r .holder) d (getD (r .holder) d 0)) (phase-known r s d)))
+    (λ _. act-small r d _ (phase-known r s d) (effect-told k p _ (doorOf r d) (reason-small (planOf r) (r .right) (r .place) (r .phase) (r .holder) d (getD (r .holder) d 0)) (phase-known r s d)))
     (λ _. record { phase-short = phase-known r s d; reason-short = omega arith }))
     (λ _. record { phase-short = omega arith; reason-short = omega arith }))
     (λ _. record { phase-short = omega arith; reason-short = omega arith })

@@ -9,7 +9,7 @@ use borrow.Author.Tests.{ne-eqb}
 use lib.ListN.{length, getD, set, length-set, List·getD-eq-default}
 use lib.Seq.{set-out}
 use lib.Dec.{eqb, ltb}
-use Rattle.tables.specs.Tables.{mayBe}
+use Rattle.tables.specs.Tables.{Plan, mayBe}
 use Rattle.tables.proofs.Laws.{and-left, and-right, tell-and, tell-le}
 use Rattle.tables.specs.Tests.{lawfulB}
 use Rattle.door.specs.declared.Door.{Door}
@@ -95,13 +95,12 @@ of-door =
 
 -- ---- soundness of lent lists
 
-pub reason-small : (doors : ℕ) (origin destination : List ℕ) (right : List Bool) (place phase holder : List ℕ) (d p : ℕ)
-    → firstReason doors origin destination right place phase holder d p ≤ 3
+pub reason-small : (site : Plan) (right : List Bool) (place phase holder : List ℕ) (d p : ℕ) → firstReason site right place phase holder d p ≤ 3
 unfolding firstReason
-reason-small doors origin destination right place phase holder d p =
-    either (λ (n : ℕ). n ≤ 3) (eqb (getD place p 0) (getD origin d 0))
-    (λ _. either (λ (n : ℕ). n ≤ 3) (mayBe right p (getD destination d 0))
-    (λ _. either (λ (n : ℕ). n ≤ 3) (hasGrant doors phase holder p) (λ _. omega arith) (λ _. omega arith)) (λ _. omega arith)) (λ _. omega arith)
+reason-small site right place phase holder d p =
+    either (λ (n : ℕ). n ≤ 3) (eqb (getD place p 0) (getD (site .origin) d 0))
+    (λ _. either (λ (n : ℕ). n ≤ 3) (mayBe right p (getD (site .destination) d 0))
+    (λ _. either (λ (n : ℕ). n ≤ 3) (hasGrant (site .doors) phase holder p) (λ _. omega arith) (λ _. omega arith)) (λ _. omega arith)) (λ _. omega arith)
 
 one-grant : (doors : ℕ) (phase holder : List ℕ) → soleGrants doors phase holder ≡ true → (p d e : ℕ) → GrantAt doors phase holder p d
     → GrantAt doors phase holder p e → d ≡ e
@@ -113,18 +112,18 @@ one-grant doors phase holder t p d e g h =
     (record { exists = h .exists; holds = h .holds; person = h .person ∙ sym (g .person) })))
     (same-or-not d e)
 
-sound-lists : (people locations doors : ℕ) (origin destination exit : List ℕ) (right : List Bool) (place phase holder count : List ℕ)
-    → listsSound people locations doors origin destination exit right place phase holder count ≡ true
-    → ZeroBeyond people locations doors origin destination exit right × ((p : ℕ) → p < people → mayBe right p (getD place p 0) ≡ true)
-    × ((p d e : ℕ) → GrantAt doors phase holder p d → GrantAt doors phase holder p e → d ≡ e)
+sound-lists : (site : Plan) (right : List Bool) (place phase holder count : List ℕ) → listsSound site right place phase holder count ≡ true
+    → ZeroBeyond site right × ((p : ℕ) → p < site .people → mayBe right p (getD place p 0) ≡ true)
+    × ((p d e : ℕ) → GrantAt (site .doors) phase holder p d → GrantAt (site .doors) phase holder p e → d ≡ e)
 unfolding listsSound doorsSound
-sound-lists people locations doors origin destination exit right place phase holder count t =
-    let rest = and-right (lawfulB people locations doors origin destination exit right) _ t in
-    let lists = and-right (zeroBeyond people locations doors origin destination exit right) _ rest in
-    let of-doors = and-right (placesFit people right place) _ lists in (
-      ends-tell people locations doors origin destination exit right .yes (and-left _ _ rest),
-      λ p h. tell-places people right place .yes (and-left _ _ lists) p .0 h,
-      one-grant doors phase holder (and-right (grantsFit doors origin destination right place phase holder) _ (and-right (doorsFit people doors phase holder count) _ of-doors)),
+sound-lists site right place phase holder count t =
+    let rest = and-right (lawfulB (length place) site right) _ t in
+    let lists = and-right (zeroBeyond site right) _ rest in
+    let of-doors = and-right (placesFit (site .people) right place) _ lists in (
+      ends-tell site right .yes (and-left _ _ rest),
+      λ p h. tell-places (site .people) right place .yes (and-left _ _ lists) p .0 h,
+      one-grant (site .doors) phase holder
+          (and-right (grantsFit site right place phase holder) _ (and-right (doorsFit (site .people) (site .doors) phase holder count) _ of-doors)),
     )
 
 pub of-sound : SoundAnswers

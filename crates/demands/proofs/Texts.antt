@@ -10,7 +10,7 @@ use lib.Dec.{eqb, ltb, leb}
 use native.Mathlib.Nat.{zero-add}
 use lib.ListN.{length, getD, take, drop, replicate, length-append, length-replicate}
 use lib.Seq.{length-sets, sets-eq, getD-take, length-take-le}
-use Rattle.tables.specs.Tables.{mostLocations}
+use Rattle.tables.specs.Tables.{Plan, mostPeople, mostLocations}
 use Rattle.grammar.specs.Cut.{cutRow}
 use Rattle.grammar.specs.Rows.{rowsFrom}
 use Rattle.grammar.specs.declared.cut.RowCut.{RowCut}
@@ -21,11 +21,11 @@ use Rattle.record.specs.Doors.{Shaped}
 use Rattle.record.specs.Sound.{Sound}
 use Rattle.record.specs.Run.{repliesOf}
 use Rattle.tables.proofs.Cases.{either}
-use Rattle.record.proofs.Laws.{run-sound, run-shaped}
+use Rattle.record.proofs.Laws.{run-sound, run-plan}
 use Rattle.site_sheet.specs.Site.{siteOf, verdictNo}
 use Rattle.grammar.specs.Sizes.{limit}
 use Rattle.site_sheet.specs.Accepted.{AcceptedRecord}
-use Rattle.site_sheet.proofs.Theorems.{accepted-holds}
+use Rattle.site_sheet.proofs.Theorems.{accepted-holds, accepted-people}
 use Rattle.run_text.specs.declared.steps.Heading.{Heading}
 use Rattle.run_text.specs.declared.steps.Heading.the-variants as heading
 use Rattle.text.specs.declared.printed.Printed.{Printed}
@@ -136,7 +136,7 @@ ran-fits r sh s sheet from h =
     let m = length-append answers end in
     omega arith
 
-steps-fit : (site : List ℕ) → AcceptedRecord site → (steps : List ℕ) (h : Heading) → headingOf steps ≡ h
+steps-fit : (site : List ℕ) → AcceptedRecord limit site → (steps : List ℕ) (h : Heading) → headingOf steps ≡ h
     → length (stepsText (siteOf site .«record») steps h) ≤ mostPanelText
 steps-fit site a steps heading.TooLong e = alone-fits 1 (omega arith)
 steps-fit site a steps heading.Wrong e = alone-fits 2 (omega arith)
@@ -146,10 +146,10 @@ panel-fits : (site steps : List ℕ) → length (panelText site steps) ≤ mostP
 unfolding panelText
 panel-fits site steps =
     either (λ (t : List ℕ). length t ≤ mostPanelText) (eqb (verdictNo (siteOf site .verdict)) 0)
-    (λ z. steps-fit site (accepted-holds site (zero-accepted (siteOf site .verdict) (eqb-true _ _ z))) steps (headingOf steps) refl)
+    (λ z. steps-fit site (accepted-holds limit site (zero-accepted (siteOf site .verdict) (eqb-true _ _ z))) steps (headingOf steps) refl)
     (λ _. alone-fits (verdictNo (siteOf site .verdict)) (number-most (siteOf site .verdict)))
 
--- everyone is in a location below 32
+-- everyone is in a location of the site
 place-small : (r : Record) → Sound r → (p : ℕ) → p < r .people → getD (r .place) p 0 < 100
 place-small r s p h = go (leb mostLocations (getD (r .place) p 0)) refl
   where
@@ -157,22 +157,22 @@ place-small r s p h = go (leb mostLocations (getD (r .place) p 0)) refl
     go true q = absurd (true≢false (sym (s .placed p h) ∙ of-rules .may-be (r .right) p (getD (r .place) p 0) .1 (leb-true _ _ q)))
     go false q = let l = leb-false mostLocations (getD (r .place) p 0) q in omega arith
 
-record-fits : (r : Record) → Shaped r → Sound r → length (recordText r) ≤ mostWhereText
+record-fits : (r : Record) → Sound r → r .people ≤ mostPeople → length (recordText r) ≤ mostWhereText
 unfolding placesText
-record-fits r sh s =
+record-fits r s few =
     let people = s .tables .in-range .people-to in
-    let places = sh .places in
     let n = length-take-le (r .people) (r .place) (omega arith) in
     let l = length-append whereHeader (placeRows 0 (take (r .people) (r .place))) in
     let short = places-short (take (r .people) (r .place)) 0 (omega arith) (λ i k. rw (getD-take (r .people) (r .place) i 0 (omega arith)) (place-small r s i (omega arith))) in
     omega arith
 
-last-fits-where : (site : List ℕ) → AcceptedRecord site → (steps : List ℕ) (h : Heading) → length (recordText (lastRecord (siteOf site .«record») steps h)) ≤ mostWhereText
-last-fits-where site a steps heading.TooLong = record-fits (siteOf site .«record») (a .shaped) (a .sound)
-last-fits-where site a steps heading.Wrong = record-fits (siteOf site .«record») (a .shaped) (a .sound)
+last-fits-where : (site : List ℕ) → AcceptedRecord limit site → (steps : List ℕ) (h : Heading) → length (recordText (lastRecord (siteOf site .«record») steps h)) ≤ mostWhereText
+last-fits-where site a steps heading.TooLong = record-fits (siteOf site .«record») (a .sound) (accepted-people a)
+last-fits-where site a steps heading.Wrong = record-fits (siteOf site .«record») (a .sound) (accepted-people a)
 last-fits-where site a steps (heading.Rows from) =
     let rows = rowsIn (stepsFrom steps from) in
-    record-fits _ (run-shaped (siteOf site .«record») rows (a .shaped)) (run-sound (siteOf site .«record») rows (a .shaped) (a .sound))
+    record-fits _ (run-sound (siteOf site .«record») rows (a .shaped) (a .sound))
+    (rw (ap (λ (plan : Plan). plan .people) (run-plan (siteOf site .«record») rows)) (accepted-people a))
 
 none-fit : length (placesText []) ≤ mostWhereText
 unfolding placesText placeRows
@@ -182,7 +182,7 @@ where-fits : (site steps : List ℕ) → length (whereText site steps) ≤ mostW
 unfolding whereText
 where-fits site steps =
     either (λ (t : List ℕ). length t ≤ mostWhereText) (eqb (verdictNo (siteOf site .verdict)) 0)
-    (λ z. last-fits-where site (accepted-holds site (zero-accepted (siteOf site .verdict) (eqb-true _ _ z))) steps (headingOf steps))
+    (λ z. last-fits-where site (accepted-holds limit site (zero-accepted (siteOf site .verdict) (eqb-true _ _ z))) steps (headingOf steps))
     (λ _. none-fit)
 
 -- so it is printed whole there

@@ -13,7 +13,7 @@ use Rattle.tables.specs.Way.{unlessOutside, wayOut, unvisited, wayOf, ifRoom, w
 use Rattle.record.specs.declared.record.Record.{Record}
 use Rattle.record.specs.declared.steps.Step.{Step}
 use Rattle.phases.specs.declared.table.Kind.the-variants.{Decide, Green, Walk}
-use Rattle.phases.specs.Phase.{grants, green, expired}
+use Rattle.phases.specs.Phase.{grants, green, expired, greenSpan}
 use Rattle.record.specs.Doors.{Shaped, zeros}
 use Rattle.phases.specs.Kinds.{StepRow, allows}
 use Rattle.granting.specs.Grants.{grantsTo, grantOf, hasGrant}
@@ -33,7 +33,7 @@ use Rattle.grammar.specs.Say.{valueFrom, digitsFrom, needlessZero, numberIn, co
 use Rattle.verdict.specs.declared.Verdict.the-variants.{Accepted, NoExit, Stray, NoDoor, NoRight, ShutOut}
 use Rattle.site_sheet.specs.Draft.{unmarked, siteRowFits, takeSite, doorRowFits, takeDoor, exitRowFits, takeExit, rightRowFits, takeRight, takeLine}
 use Rattle.site_sheet.specs.Line.{wordOf, siteLineAt, siteHeaderAt}
-use Rattle.site_sheet.specs.Site.{linesIn, readLines, judged, settled, afterHeader, siteOf}
+use Rattle.site_sheet.specs.Site.{linesIn, readLines, judged, settled, afterHeader, siteAt, siteOf}
 use Rattle.run_events.specs.Lines.{Line, linesOf, heardOf}
 use Rattle.card_by_card.specs.Serving.{stepAt, ticked}
 use Rattle.card_by_card.specs.Served.{Fresh}
@@ -52,7 +52,7 @@ sheets : (siteOf siteSheet .verdict ≡ Accepted)
     × (siteOf withoutRightOf0 .verdict ≡ NoRight 0 2)
     × (siteOf withoutRightOf1 .verdict ≡ ShutOut 1)
     × (freshSite ≡ site-of-01)
-unfolding bareMove shutMove moveOf endOf fieldFrom pushed rowFrom cutRow readRows rowsFrom valueFrom digitsFrom needlessZero numberIn contentAt sameBytes isWord saysWords numberAt orAt leastBelow withLocation locationOf leastPair someBelow orElse andAlso mayBe lacksExit firstNoExit strays firstStray joins lacksDoor firstNoDoor lacksRight firstNoRight letsIn shutOut firstShutOut unlessOutside wayOut unvisited wayOf unmarked siteRowFits takeSite doorRowFits takeDoor exitRowFits takeExit rightRowFits takeRight takeLine wordOf siteLineAt siteHeaderAt linesIn readLines judged settled afterHeader siteOf zeros
+unfolding bareMove shutMove moveOf endOf fieldFrom pushed rowFrom cutRow readRows rowsFrom valueFrom digitsFrom needlessZero numberIn contentAt sameBytes isWord saysWords numberAt orAt leastBelow withLocation locationOf leastPair someBelow orElse andAlso mayBe lacksExit firstNoExit strays firstStray joins lacksDoor firstNoDoor lacksRight firstNoRight letsIn shutOut firstShutOut unlessOutside wayOut unvisited wayOf unmarked siteRowFits takeSite doorRowFits takeDoor exitRowFits takeExit rightRowFits takeRight takeLine wordOf siteLineAt siteHeaderAt linesIn readLines judged settled afterHeader siteAt zeros
 sheets = (refl, refl, refl, refl, refl, refl, refl)
 
 fresh : Fresh freshSite
@@ -76,7 +76,7 @@ steps : (reasonAt 1 (cardAt 0 0 ∷ stepAt Decide 0 ∷ stepAt Green 0 ∷ stepA
     × (reasonAt 1 (goesThrough 0 1 (cardAt 1 1 ∷ [])) ≡ 2)
     × (reasonAt 3 (goesThrough 0 0 (cardAt 1 0 ∷ stepAt Decide 1 ∷ cardAt 3 0 ∷ [])) ≡ 3)
     × (phaseAt 0 (greenFor 299) ≡ green)
-    × (phaseAt 0 (greenFor 300) ≡ expired)
+    × (phaseAt 0 (greenFor greenSpan) ≡ expired)
 unfolding soundLast soundStep firstReason effect act exist allows hasGrant grantOf leastBelow orAt grantsTo grants mayBe andAlso orElse zeros ticked
 steps = (reason-here 1 _, reason-here 1 _, reason-here 3 _, phase-here 0 _, phase-here 0 _)
 

@@ -1,7 +1,7 @@
 -- Answers are unique, crate by crate; what that says of each function is in `specs/Unique.antt`. Assumes nothing.
 use Prim.Native.Nat.{ℕ}
 use mathlib.Core.Path.{_≡_, sym, _∙_}
-use mathlib.Core.List.{List}
+use mathlib.Core.List.{List, []}
 use Rattle.record.proofs.Right.{reason-only}
 use Rattle.site_sheet.proofs.Only.{gives-site}
 use Rattle.text.specs.declared.printed.Printed.{Printed}
@@ -67,13 +67,13 @@ pub rules-unique : RulesUnique
 rules-unique =
     record {
       may-be = λ right p l. alone;
-      in-range = λ people locations doors origin destination exit. alone;
+      in-range = λ most site. alone;
       first-no-exit = λ locations given. alone;
       first-stray = λ locations exit. alone;
-      first-no-door = λ locations doors origin destination exit. alone;
-      first-no-right = λ people locations exit right. alone;
-      first-shut-out = λ people doors origin destination right. alone;
-      lawful = λ people locations doors origin destination exit right. alone;
+      first-no-door = λ locations doors origin destination exit x y a b. a 0 ∙ sym (b 0);
+      first-no-right = λ people locations exit right x y a b. a 0 [] [] ∙ sym (b 0 [] []);
+      first-shut-out = λ people doors origin destination right x y a b. a 0 [] ∙ sym (b 0 []);
+      lawful = λ most site right. alone;
       way-out = λ locations exit from list. beside;
     }
 
@@ -94,14 +94,14 @@ pub sound-unique : SoundUnique
 sound-unique =
     record {
       grant-of = λ n phase holder p. alone;
-      first-reason = λ doors origin destination right place phase holder d p. alone;
-      lists-sound = λ people locations doors origin destination exit right place phase holder count. alone;
+      first-reason = λ doors origin destination right place phase holder d p x y a b. a 0 0 [] ∙ sym (b 0 0 []);
+      lists-sound = λ site right place phase holder count. alone;
     }
 
 pub record-unique : RecordUnique
 record-unique =
     record {
-      fresh = λ people locations doors origin destination exit right. alone;
+      fresh = λ site right. alone;
       is-sound = λ r. alone;
       step = λ r k d p. alone;
       step-numbered = λ r n d p. alone;

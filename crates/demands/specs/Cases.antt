@@ -6,7 +6,7 @@ use lib.ListN.{getD}
 use Rattle.record.specs.declared.record.Record.{Record}
 use Rattle.phases.specs.declared.table.Kind.the-variants.{Card, Decide, Green, Walk, Passed, Ack}
 use Rattle.phases.specs.declared.answer.WayAnswer.the-variants.{Length}
-use Rattle.phases.specs.Phase.{green, expired}
+use Rattle.phases.specs.Phase.{green, expired, greenSpan}
 use Rattle.record.specs.Run.{rowOf, lastOf}
 use Rattle.phases.specs.Kinds.{StepRow}
 use Rattle.record.specs.Questions.{wayAnswerOf, wayWritten}
@@ -83,7 +83,7 @@ pub record TwelveCases : Type 0 where
   -- "(10) 299 ticks after `green`: still 3"
   pub case-10 : phaseAt 0 (greenFor 299) ≡ green
   -- "(11) 300 ticks: 5"
-  pub case-11 : phaseAt 0 (greenFor 300) ≡ expired
+  pub case-11 : phaseAt 0 (greenFor greenSpan) ≡ expired
   -- "(12) way out of 2 is 1, 0"
   pub case-12-length : wayAnswerOf freshSite 2 (9 ∷ 9 ∷ 9 ∷ []) ≡ Length 2
   pub case-12 : wayWritten freshSite 2 (9 ∷ 9 ∷ 9 ∷ []) ≡ 1 ∷ 0 ∷ 9 ∷ []

@@ -2,7 +2,7 @@
 -- from the papers. A refusal alters no record and no list lent to it." Each field is a public function, and says what follows of
 -- the definition that its promise cites. A function that answers no number tells a place or a fact: the place is there, the fact
 -- is told exactly.
-use Prim.Native.Nat.{ℕ, _+_, _≤_, _<_}
+use Prim.Native.Nat.{ℕ, _+_, _-_, _^_, _≤_, _<_}
 use mathlib.Core.Path.{_≡_}
 use mathlib.Core.Bool.{Bool, true, false}
 use mathlib.Core.List.{List, [], _∷_, _++_, map}
@@ -32,7 +32,7 @@ use Rattle.text.specs.Printed.{printedOf, written, printedNo}
 use Rattle.tables.specs.declared.Found.the-variants.{At, Nothing}
 use Rattle.tables.specs.declared.RightFound.the-variants as pair
 use Rattle.tables.specs.declared.WayTold.the-variants.{Length, TooShort}
-use Rattle.tables.specs.Tables.{mayBe, mostLocations}
+use Rattle.tables.specs.Tables.{Plan, mayBe, mostPeople, mostLocations}
 use Rattle.tables.specs.Below.{Tells}
 use Rattle.tables.specs.Rules.{PlanInRange, Lawful}
 use Rattle.tables.specs.Tests.{planInRange, firstNoExit, firstStray, firstNoDoor, firstNoRight, firstShutOut, lawfulB}
@@ -64,7 +64,7 @@ use Rattle.record.specs.Run.{rowsOf, lastOf, repliesOf, answerTold, phaseTold, 
 use Rattle.record.specs.Questions.{placeOf, grantedTo, wayAnswerOf, wayWritten}
 use Rattle.verdict.specs.declared.Verdict.{Verdict}
 use Rattle.site_sheet.specs.Site.{siteOf, blankRecord, firstPlace, secondPlace}
-use Rattle.grammar.specs.Sizes.{limit}
+use Rattle.grammar.specs.Sizes.{limit, width}
 use Rattle.site_sheet.specs.Site as site
 use Rattle.site_sheet.specs.Gives.{Gives}
 use Rattle.run_text.specs.declared.steps.Heading.{Heading}
@@ -116,7 +116,7 @@ pub record SheetAnswers : Type 0 where
   pub says-words : (s : List ℕ) (cells : Cells) (x y z : List ℕ) → saysWords s cells x y z ≡ true
       → (cells .count ≡ 3) × (contentAt s (cells .first) ≡ x) × (contentAt s (cells .second) ≡ y) × (contentAt s (cells .third) ≡ z)
   -- "A number is 1 to 3 digits"
-  pub number-of : (s : List ℕ) (cell : Cell) (n : ℕ) → numberAt s cell ≡ Is n → n ≤ 999
+  pub number-of : (s : List ℕ) (cell : Cell) (n : ℕ) → numberAt s cell ≡ Is n → n < 10 ^ width
 
 -- ---- crate `text`
 
@@ -161,24 +161,19 @@ pub record TablesAnswers : Type 0 where
 pub record WayTells (way list : List ℕ) : Type 0 where
   pub short : length list < length way → (wayToldIn way list ≡ TooShort) × (wayWrittenIn way list ≡ list)
   pub room : length way ≤ length list → (wayToldIn way list ≡ Length (length way)) × (wayWrittenIn way list ≡ way ++ drop (length way) list)
-  pub most : length way ≤ 31
+  pub most : length way ≤ mostLocations - 1
 
 -- a test tells its rule, and an offender that is told is there
 pub record RulesAnswers : Type 0 where
   -- "Location 0 is everybody's", and no right is read for a location past the last
   pub may-be : (right : List Bool) (p l : ℕ) → (mayBe right p 0 ≡ true) × (mostLocations ≤ l → mayBe right p l ≡ false)
-  pub in-range : (people locations doors : ℕ) (origin destination exit : List ℕ)
-      → Tells (planInRange people locations doors origin destination exit) (PlanInRange people locations doors origin destination exit)
+  pub in-range : (most : ℕ) (site : Plan) → Tells (planInRange most site) (PlanInRange most site)
   pub first-no-exit : (locations : ℕ) (given : List Bool) (l : ℕ) → firstNoExit locations given ≡ At l → l < locations
   pub first-stray : (locations : ℕ) (exit : List ℕ) (l : ℕ) → firstStray locations exit ≡ At l → l < locations
-  pub first-no-door : (locations doors : ℕ) (origin destination exit : List ℕ) (l : ℕ) → firstNoDoor locations doors origin destination exit ≡ At l
-      → l < locations
-  pub first-no-right : (people locations : ℕ) (exit : List ℕ) (right : List Bool) (p l : ℕ) → firstNoRight people locations exit right ≡ pair.At p l
-      → (p < people) × (l < locations)
-  pub first-shut-out : (people doors : ℕ) (origin destination : List ℕ) (right : List Bool) (p : ℕ)
-      → firstShutOut people doors origin destination right ≡ At p → p < people
-  pub lawful : (people locations doors : ℕ) (origin destination exit : List ℕ) (right : List Bool)
-      → Tells (lawfulB people locations doors origin destination exit right) (Lawful people locations doors origin destination exit right)
+  pub first-no-door : (site : Plan) (l : ℕ) → firstNoDoor site ≡ At l → l < site .locations
+  pub first-no-right : (site : Plan) (right : List Bool) (p l : ℕ) → firstNoRight site right ≡ pair.At p l → (p < site .people) × (l < site .locations)
+  pub first-shut-out : (site : Plan) (right : List Bool) (p : ℕ) → firstShutOut site right ≡ At p → p < site .people
+  pub lawful : (most : ℕ) (site : Plan) (right : List Bool) → Tells (lawfulB most site right) (Lawful most site right)
   pub way-out : (locations : ℕ) (exit : List ℕ) (from : ℕ) (list : List ℕ) → WayTells (wayOf locations exit from) list
 
 -- ---- crates `phases` and `door`
@@ -212,13 +207,11 @@ pub record SoundAnswers : Type 0 where
   -- the door that is told is there and holds a grant of the person
   pub grant-of : (n : ℕ) (phase holder : List ℕ) (p d : ℕ) → grantOf n phase holder p ≡ At d → GrantAt n phase holder p d
   -- "reason 1 .., 2 .., 3 ..", and 0 for none
-  pub first-reason : (doors : ℕ) (origin destination : List ℕ) (right : List Bool) (place phase holder : List ℕ) (d p : ℕ)
-      → firstReason doors origin destination right place phase holder d p ≤ 3
+  pub first-reason : (site : Plan) (right : List Bool) (place phase holder : List ℕ) (d p : ℕ) → firstReason site right place phase holder d p ≤ 3
   -- lists that are told sound: "Places beyond the counts are 0", everyone is where they may be, and no person has two grants
-  pub lists-sound : (people locations doors : ℕ) (origin destination exit : List ℕ) (right : List Bool) (place phase holder count : List ℕ)
-      → listsSound people locations doors origin destination exit right place phase holder count ≡ true
-      → ZeroBeyond people locations doors origin destination exit right × ((p : ℕ) → p < people → mayBe right p (getD place p 0) ≡ true)
-      × ((p d e : ℕ) → GrantAt doors phase holder p d → GrantAt doors phase holder p e → d ≡ e)
+  pub lists-sound : (site : Plan) (right : List Bool) (place phase holder count : List ℕ) → listsSound site right place phase holder count ≡ true
+      → ZeroBeyond site right × ((p : ℕ) → p < site .people → mayBe right p (getD place p 0) ≡ true)
+      × ((p d e : ℕ) → GrantAt (site .doors) phase holder p d → GrantAt (site .doors) phase holder p e → d ≡ e)
 
 -- ---- crate `record`: a step
 
@@ -293,11 +286,10 @@ pub record WayOutTells (r : Record) (l : ℕ) (list : List ℕ) : Type 0 where
   pub unaltered : (wayNo (wayAnswerOf r l list) ≡ 0 → ⊥) → wayWritten r l list ≡ list
 
 pub record RecordAnswers : Type 0 where
-  -- the test of soundness tells it, of every record whose lists are as long as its arrays
+  -- the test of soundness tells it, of every record whose lists of doors and locations are as long as its arrays
   pub is-sound : (r : Record) → Shaped r → Tells (soundB r) (Sound r)
   -- of lawful tables with 0 beyond the counts, the fresh record is sound
-  pub fresh : (people locations doors : ℕ) (origin destination exit : List ℕ) (right : List Bool) → Lawful people locations doors origin destination exit right
-      → ZeroBeyond people locations doors origin destination exit right → Sound (freshRecord people locations doors origin destination exit right)
+  pub fresh : (site : Plan) (right : List Bool) → Lawful mostPeople site right → ZeroBeyond site right → Sound (freshRecord site right)
   pub step : (r : Record) (k : Kind) (d p : ℕ) → StepTells r k d p (stepOf r k d p)
   pub step-numbered : (r : Record) (n d p : ℕ) → StepTells r (kindOf n) d p (stepOf r (kindOf n) d p)
   -- the record that is lent holds the next record at exit, so what is said of a step is said of it
@@ -322,7 +314,7 @@ pub record RecordAnswers : Type 0 where
 -- what is answered to a sheet: each number, with its place, exactly when its line of the table says so
 pub record SiteTells (s : List ℕ) : Type 0 where
   pub number : site.verdictNo (siteOf s .verdict) ≤ 10
-  pub exactly : (v : Verdict) → (siteOf s .verdict ≡ v) ↔ Gives s v
+  pub exactly : (v : Verdict) → (siteOf s .verdict ≡ v) ↔ Gives limit s v
   -- "A refused site sheet gives no new record.": the blank one, which isn't sound
   pub no-record : (site.verdictNo (siteOf s .verdict) ≡ 0 → ⊥) → (siteOf s .«record» ≡ blankRecord) × (soundB (siteOf s .«record») ≡ true → ⊥)
 

@@ -7,6 +7,7 @@ use mathlib.Core.Path.{_≡_}
 use mathlib.Core.List.{List, _++_}
 use mathlib.Core.Logic.{_⊎_, _↔_}
 use lib.ListN.{length, getD, drop}
+use Rattle.tables.specs.Tables.{mostLocations}
 use Rattle.tables.specs.Rules.{SafeWay}
 use Rattle.tables.specs.Way.{Way}
 use Rattle.record.specs.declared.record.Record.{Record}
@@ -15,9 +16,9 @@ use Rattle.phases.specs.declared.table.Kind.the-variants.{Decide, Green, Red, T
 use Rattle.phases.specs.declared.answer.Answer.the-variants.{Done, NotAllowed}
 use Rattle.record.specs.declared.steps.Step.{Step}
 use Rattle.phases.specs.declared.answer.WayAnswer.the-variants.{Length}
-use Rattle.phases.specs.Phase.{granted, green, expired, denied, red, dimmed}
+use Rattle.phases.specs.Phase.{granted, green, expired, denied, red, dimmed, greenSpan, redSpan}
 use Rattle.door.specs.Door.{door}
-use Rattle.record.specs.Doors.{doorOf, Shaped}
+use Rattle.record.specs.Doors.{planOf, doorOf, Shaped}
 use Rattle.record.specs.Sound.{Sound}
 use Rattle.record.specs.Steps.{Admitted, First, stepOf}
 use Rattle.record.specs.Run.{lastOf}
@@ -25,6 +26,7 @@ use Rattle.phases.specs.Kinds.{StepRow}
 use Rattle.record.specs.Lights.{ticks, Each, NoGreenNoWalk, NoRed}
 use Rattle.record.specs.Questions.{wayAnswerOf, wayWritten}
 use Rattle.verdict.specs.declared.Verdict.the-variants.{Accepted}
+use Rattle.grammar.specs.Sizes.{limit}
 use Rattle.site_sheet.specs.Site.{siteOf}
 use Rattle.site_sheet.specs.Gives.{Obeys}
 use Rattle.site_sheet.specs.Accepted.{AcceptedRecord}
@@ -45,9 +47,9 @@ pub record WayOutside (r : Record) (p : ℕ) : Type 0 where
   -- "its exit followed by the way out of that exit, and nothing for location 0"
   pub signed : Way (r .exit) (getD (r .place) p 0) way
   -- to 0, through doors, by locations that they may be in
-  pub usable : SafeWay (r .doors) (r .origin) (r .destination) (r .right) p (getD (r .place) p 0) way
+  pub usable : SafeWay (planOf r) (r .right) p (getD (r .place) p 0) way
   -- "has at most 31 members"
-  pub short : length way ≤ 31
+  pub short : length way ≤ mostLocations - 1
   -- and it is what the question for the way out tells and writes into any list that has room for it
   pub told : (list : List ℕ) → length way ≤ length list
       → (wayAnswerOf r (getD (r .place) p 0) list ≡ Length (length way))
@@ -96,8 +98,8 @@ pub record Decided (r : Record) (d : ℕ) (s : Step) : Type 0 where
 -- the steps that act and alter nothing: a tick of a door in neither 3 nor 7, and an order for a light whose countdown is still whole
 pub data NothingToAlter (r : Record) (d : ℕ) : Kind → Type 0 where
   no-light : (getD (r .phase) d 0 ≡ green → ⊥) → (getD (r .phase) d 0 ≡ red → ⊥) → NothingToAlter r d Tick
-  green-whole : getD (r .phase) d 0 ≡ green → getD (r .count) d 0 ≡ 300 → NothingToAlter r d Green
-  red-whole : getD (r .phase) d 0 ≡ red → getD (r .count) d 0 ≡ 20 → NothingToAlter r d Red
+  green-whole : getD (r .phase) d 0 ≡ green → getD (r .count) d 0 ≡ greenSpan → NothingToAlter r d Green
+  red-whole : getD (r .phase) d 0 ≡ red → getD (r .count) d 0 ≡ redSpan → NothingToAlter r d Red
 
 -- "A green door that gets neither another `green` nor a `walk` is expired after exactly as many of its own ticks as its countdown
 -- says": s is what the order for a light answered at door d. The countdown is the span less the door's ticks since, whatever happens
@@ -110,18 +112,18 @@ pub record CountsDown (r : Record) (d : ℕ) (s : Step) (Quiet : StepRow → Typ
 
 -- "`green`: .. countdown 300. `red`: .. countdown 20."
 abbrev pub GreenCounts : Record → ℕ → Step → Type 0
-GreenCounts r d s = CountsDown r d s (NoGreenNoWalk d) green expired 300
+GreenCounts r d s = CountsDown r d s (NoGreenNoWalk d) green expired greenSpan
 
 abbrev pub RedCounts : Record → ℕ → Step → Type 0
-RedCounts r d s = CountsDown r d s (NoRed d) red dimmed 20
+RedCounts r d s = CountsDown r d s (NoRed d) red dimmed redSpan
 
 -- ---- all of it
 
 pub record DemandTwo : Type 1 where
   -- "A site sheet is accepted exactly when it obeys the written rules,"
-  pub accepted : (s : List ℕ) → (siteOf s .verdict ≡ Accepted) ↔ Obeys s
+  pub accepted : (s : List ℕ) → (siteOf s .verdict ≡ Accepted) ↔ Obeys limit s
   -- "and its record holds what its rows say,"
-  pub holds : (s : List ℕ) → siteOf s .verdict ≡ Accepted → AcceptedRecord s
+  pub holds : (s : List ℕ) → siteOf s .verdict ≡ Accepted → AcceptedRecord limit s
   -- "so everybody has a signed way outside which they may use": in every sound record, and so after any list of steps
   pub way-outside-of : (r : Record) → Shaped r → Sound r → (p : ℕ) → p < r .people → WayOutside r p
   pub way-outside : (s : List ℕ) → siteOf s .verdict ≡ Accepted → (rows : List StepRow) (p : ℕ) → p < siteOf s .«record» .people

@@ -28,7 +28,7 @@ use Rattle.tables.specs.declared.Found.{Found}
 use Rattle.tables.specs.declared.Found.the-variants.{Nothing}
 use Rattle.tables.specs.declared.RightFound.{RightFound}
 use Rattle.tables.specs.declared.WayTold.{WayTold}
-use Rattle.tables.specs.Tables.{mayBe}
+use Rattle.tables.specs.Tables.{Plan, plan, mayBe}
 use Rattle.tables.specs.Tests.{planInRange, firstNoExit, firstStray, firstNoDoor, firstNoRight, firstShutOut, lawfulB}
 use Rattle.tables.specs.Way.{wayOf, wayToldIn, wayWrittenIn}
 use Rattle.door.specs.declared.Door.{Door}
@@ -61,6 +61,7 @@ use Rattle.record.specs.Questions.{askedNo, unlessRefused, placeOf, grantedTo}
 use Rattle.record.specs.Questions.{wayAnswerOf, wayWritten, wayAskedNo}
 use Rattle.verdict.specs.declared.Verdict.{Verdict}
 use Rattle.site_sheet.specs.declared.SiteRead.{SiteRead}
+use Rattle.grammar.specs.Sizes.{limit}
 use Rattle.site_sheet.specs.Site.{siteOf, firstPlace, secondPlace}
 use Rattle.site_sheet.specs.Site as site
 use Rattle.site_sheet.specs.Gives.{Gives}
@@ -98,18 +99,17 @@ pub record TablesUnique : Type 0 where
 
 pub record RulesUnique : Type 0 where
   pub may-be : (right : List Bool) (p l : ℕ) → Unique (λ (x : Bool). x ≡ mayBe right p l)
-  pub in-range : (people locations doors : ℕ) (origin destination exit : List ℕ)
-      → Unique (λ (x : Bool). x ≡ planInRange people locations doors origin destination exit)
+  pub in-range : (most : ℕ) (site : Plan) → Unique (λ (x : Bool). x ≡ planInRange most site)
   pub first-no-exit : (locations : ℕ) (given : List Bool) → Unique (λ (x : Found). x ≡ firstNoExit locations given)
   pub first-stray : (locations : ℕ) (exit : List ℕ) → Unique (λ (x : Found). x ≡ firstStray locations exit)
   pub first-no-door : (locations doors : ℕ) (origin destination exit : List ℕ)
-      → Unique (λ (x : Found). x ≡ firstNoDoor locations doors origin destination exit)
+      → Unique (λ (x : Found). (people : ℕ) → x ≡ firstNoDoor (plan people locations doors origin destination exit))
   pub first-no-right : (people locations : ℕ) (exit : List ℕ) (right : List Bool)
-      → Unique (λ (x : RightFound). x ≡ firstNoRight people locations exit right)
+      → Unique
+      (λ (x : RightFound). (doors : ℕ) (origin destination : List ℕ) → x ≡ firstNoRight (plan people locations doors origin destination exit) right)
   pub first-shut-out : (people doors : ℕ) (origin destination : List ℕ) (right : List Bool)
-      → Unique (λ (x : Found). x ≡ firstShutOut people doors origin destination right)
-  pub lawful : (people locations doors : ℕ) (origin destination exit : List ℕ) (right : List Bool)
-      → Unique (λ (x : Bool). x ≡ lawfulB people locations doors origin destination exit right)
+      → Unique (λ (x : Found). (locations : ℕ) (exit : List ℕ) → x ≡ firstShutOut (plan people locations doors origin destination exit) right)
+  pub lawful : (most : ℕ) (site : Plan) (right : List Bool) → Unique (λ (x : Bool). x ≡ lawfulB most site right)
   -- the answer, and the lent list at exit
   pub way-out : (locations : ℕ) (exit : List ℕ) (from : ℕ) (list : List ℕ)
       → Unique (λ (x : WayTold × List ℕ). (x .0 ≡ wayToldIn (wayOf locations exit from) list) × (x .1 ≡ wayWrittenIn (wayOf locations exit from) list))
@@ -127,13 +127,13 @@ pub record DoorUnique : Type 0 where
 pub record SoundUnique : Type 0 where
   pub grant-of : (n : ℕ) (phase holder : List ℕ) (p : ℕ) → Unique (λ (x : Found). x ≡ grantOf n phase holder p)
   pub first-reason : (doors : ℕ) (origin destination : List ℕ) (right : List Bool) (place phase holder : List ℕ) (d p : ℕ)
-      → Unique (λ (x : ℕ). x ≡ firstReason doors origin destination right place phase holder d p)
-  pub lists-sound : (people locations doors : ℕ) (origin destination exit : List ℕ) (right : List Bool) (place phase holder count : List ℕ)
-      → Unique (λ (x : Bool). x ≡ listsSound people locations doors origin destination exit right place phase holder count)
+      → Unique
+      (λ (x : ℕ). (people locations : ℕ) (exit : List ℕ) → x ≡ firstReason (plan people locations doors origin destination exit) right place phase holder d p)
+  pub lists-sound : (site : Plan) (right : List Bool) (place phase holder count : List ℕ)
+      → Unique (λ (x : Bool). x ≡ listsSound site right place phase holder count)
 
 pub record RecordUnique : Type 0 where
-  pub fresh : (people locations doors : ℕ) (origin destination exit : List ℕ) (right : List Bool)
-      → Unique (λ (x : Record). x ≡ freshRecord people locations doors origin destination exit right)
+  pub fresh : (site : Plan) (right : List Bool) → Unique (λ (x : Record). x ≡ freshRecord site right)
   pub is-sound : (r : Record) → Unique (λ (x : Bool). x ≡ soundB r)
   pub step : (r : Record) (k : Kind) (d p : ℕ) → Unique (λ (x : Step). x ≡ stepOf r k d p)
   pub step-numbered : (r : Record) (n d p : ℕ) → Unique (λ (x : Step). x ≡ stepOf r (kindOf n) d p)
@@ -198,7 +198,7 @@ pub record RunUnique : Type 0 where
 -- Where the papers say an answer by its conditions, not by a definition, they too allow one alone: the number and the place that
 -- the table gives a site sheet, and the first reason that applies.
 pub record PapersUnique : Type 0 where
-  pub table-of-numbers : (s : List ℕ) → Unique (Gives s)
+  pub table-of-numbers : (s : List ℕ) → Unique (Gives limit s)
   pub first-reason : (r : Record) (d p : ℕ) → Unique (First r d p)
 
 pub record AnswersUnique : Type 0 where

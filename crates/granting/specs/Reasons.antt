@@ -4,16 +4,16 @@ use mathlib.Core.Bool.{Bool, cond}
 use mathlib.Core.List.{List}
 use lib.ListN.{getD}
 use lib.Dec.{eqb}
-use Rattle.tables.specs.Tables.{mayBe}
+use Rattle.tables.specs.Tables.{Plan, mayBe}
 use Rattle.granting.specs.Grants.{hasGrant}
 
 -- "Granted when the person is at the door's origin, has a right to its destination and has no grant. Otherwise denied with
 -- reason 1 (not at the origin), 2 (no right), 3 (grant elsewhere), the first that applies." 0 is no reason: granted.
-unfoldable pub firstReason : ℕ → List ℕ → List ℕ → List Bool → List ℕ → List ℕ → List ℕ → ℕ → ℕ → ℕ
-firstReason doors origin destination right place phase holder d p =
-    cond (eqb (getD place p 0) (getD origin d 0))
-    (cond (mayBe right p (getD destination d 0))
-    (cond (hasGrant doors phase holder p)
+unfoldable pub firstReason : Plan → List Bool → List ℕ → List ℕ → List ℕ → ℕ → ℕ → ℕ
+firstReason site right place phase holder d p =
+    cond (eqb (getD place p 0) (getD (site .origin) d 0))
+    (cond (mayBe right p (getD (site .destination) d 0))
+    (cond (hasGrant (site .doors) phase holder p)
     3
     0)
     2)

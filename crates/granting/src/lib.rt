@@ -1,5 +1,8 @@
 // Which door holds a grant of a person, and why a person is denied a door.
 ghost use mathlib.Core.Path.{_≡_};
+ghost use mathlib.Core.List.{List};
+ghost use Prim.Native.Nat.{ℕ};
+ghost use Rattle.tables.specs.Tables.{plan};
 ghost use Rattle.granting.specs.Grants.{grantsTo, grantOf, hasGrant};
 ghost use Rattle.granting.specs.Reasons.{firstReason};
 use door::phase::grants;
@@ -55,7 +58,7 @@ pub fn first_reason<'a>(
     door: usize,
     person: usize,
 ) -> u8
-    ensures { λ r. ⌜ r ≡ firstReason doors (now (origin .entry)) (now (destination .entry)) (now (right .entry)) (now (place .entry)) (now (phase .entry)) (now (holder .entry)) door person ⌝ }
+    ensures { λ r. ⌜ ((people locations : ℕ) (exit : List ℕ) → r ≡ firstReason (plan people locations doors (now (origin .entry)) (now (destination .entry)) exit) (now (right .entry)) (now (place .entry)) (now (phase .entry)) (now (holder .entry)) door person) ⌝ }
 {
     if byte_at(place, person) != byte_at(origin, door) {
         return Reason::NOT_THERE;

@@ -3,7 +3,7 @@
 --     grant-told, none-told the door that is told holds the person's grant, and where none is told there is none
 --     way-out-safe          everybody's way out leads outside, through doors, by locations that they may be in
 -- Assumes nothing.
-use Prim.Native.Nat.{ℕ, _≤_, _<_}
+use Prim.Native.Nat.{ℕ, _-_, _≤_, _<_}
 use mathlib.Core.Path.{_≡_, refl, sym, _∙_}
 use mathlib.Core.Bool.{Bool, true, false}
 use mathlib.Core.Logic.{⊎-elim}
@@ -11,15 +11,15 @@ use native.Mathlib.Omega.{arith}
 use borrow.Author.Tests.{eqb-true, ltb-true, lt-ltb}
 use lib.ListN.{length, getD}
 use lib.Dec.{eqb, ltb}
-use Rattle.tables.specs.Tables.{mayBe, orElse, andAlso}
+use Rattle.tables.specs.Tables.{mayBe, orElse, andAlso, mostLocations}
 use Rattle.tables.specs.Way.{wayOf}
 use Rattle.tables.specs.Rules.{SafeWay}
 use Rattle.tables.proofs.Laws.{clash, and-left, and-right}
-use Rattle.tables.proofs.WayOut.{way-is-safe, way-at-most-31}
+use Rattle.tables.proofs.WayOut.{way-is-safe, way-at-most}
 use Rattle.record.specs.declared.record.Record.{Record}
 use Rattle.phases.specs.declared.answer.PlaceAnswer.the-variants as place
 use Rattle.phases.specs.declared.answer.GrantAnswer.the-variants as grant
-use Rattle.record.specs.Doors.{Shaped}
+use Rattle.record.specs.Doors.{planOf, Shaped}
 use Rattle.granting.specs.Grants.{GrantAt}
 use Rattle.record.specs.Sound.{rightAt, Sound}
 use Rattle.record.specs.Questions.{placeOf, grantedTo}
@@ -32,11 +32,11 @@ pub may-be-location : (r : Record) → Sound r → (p l : ℕ) → mayBe (r .rig
 unfolding mayBe orElse
 may-be-location r s p l may = go (eqb l 0) refl may
   where
-    go : (t : Bool) → eqb l 0 ≡ t → orElse t (andAlso (ltb l 32) (rightAt (r .right) p l)) ≡ true → l < r .locations
+    go : (t : Bool) → eqb l 0 ≡ t → orElse t (andAlso (ltb l mostLocations) (rightAt (r .right) p l)) ≡ true → l < r .locations
     go true e _ = let zero = eqb-true l 0 e in let some = s .tables .in-range .locations-from in omega arith
     go false e right =
-        let small = ltb-true l 32 (and-left _ _ right) in
-        ⊎-elim (λ h. h) (λ past. clash (and-right (ltb l 32) _ right) (s .zero-tables .rights-to p l past small)) (below-or-not l (r .locations))
+        let small = ltb-true l mostLocations (and-left _ _ right) in
+        ⊎-elim (λ h. h) (λ past. clash (and-right (ltb l mostLocations) _ right) (s .zero-tables .rights-to p l past small)) (below-or-not l (r .locations))
 
 -- everybody is in a location of the site
 pub place-is-location : (r : Record) → Sound r → (p : ℕ) → p < r .people → getD (r .place) p 0 < r .locations
@@ -64,9 +64,9 @@ none-told r sh s p h none = rw (sound-tells r sh .back s, lt-ltb p (r .people) h
 -- location must also be authorized to go in another location which communicates with the first one": each location of the
 -- way has a door from the one before, and the person may be there. SAF-3: ".. and leading towards outside": the way ends in 0.
 pub way-out-safe : (r : Record) → Sound r → (p : ℕ) → p < r .people
-    → SafeWay (r .doors) (r .origin) (r .destination) (r .right) p (getD (r .place) p 0) (wayOf (r .locations) (r .exit) (getD (r .place) p 0))
+    → SafeWay (planOf r) (r .right) p (getD (r .place) p 0) (wayOf (r .locations) (r .exit) (getD (r .place) p 0))
 way-out-safe r s p h = way-is-safe (s .tables) p (getD (r .place) p 0) h (place-is-location r s p h) (s .placed p h)
 
 -- and it has at most 31 members
-pub way-out-short : (r : Record) (p : ℕ) → length (wayOf (r .locations) (r .exit) (getD (r .place) p 0)) ≤ 31
-way-out-short r p = way-at-most-31 (r .locations) (r .exit) (getD (r .place) p 0)
+pub way-out-short : (r : Record) (p : ℕ) → length (wayOf (r .locations) (r .exit) (getD (r .place) p 0)) ≤ mostLocations - 1
+way-out-short r p = way-at-most (r .locations) (r .exit) (getD (r .place) p 0)

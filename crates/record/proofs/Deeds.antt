@@ -6,9 +6,9 @@ use mathlib.Core.List.{[]}
 use mathlib.Core.Logic.{⊎-elim}
 use native.Mathlib.Omega.{arith}
 use borrow.Author.Tests.{ltb-true, not-true, not-false}
-use lib.ListN.{getD}
+use lib.ListN.{length, getD}
 use lib.Dec.{ltb}
-use Rattle.tables.specs.Tables.{orElse}
+use Rattle.tables.specs.Tables.{plan, orElse, mostPeople}
 use Rattle.tables.proofs.Laws.{and-right}
 use Rattle.door.specs.declared.Door.{Door}
 use Rattle.record.specs.declared.record.Record.{Record}
@@ -29,10 +29,10 @@ use Rattle.tables.proofs.Cases.{below-or-not}
 use Rattle.phases.proofs.Entries.{table-allows}
 
 -- a sound record's lists are as `judge` asks
-pub known : (r : Record) → Sound r → Known (r .people) (r .phase)
-known r s =
+pub known : (r : Record) → length (r .place) ≡ mostPeople → Sound r → Known (r .people) (r .phase)
+known r long s =
     record {
-      room = s .tables .in-range .people-to;
+      room = let room = s .tables .in-range .people-to in omega arith;
       phases =
           λ d.
           ⊎-elim (λ h. s .doors d h .known)
@@ -73,7 +73,7 @@ pub card-person : (people doors : ℕ) (k : Kind) (d p : ℕ) (e : Bool) → ((t
     → not e ≡ false → k ≡ Card → p < people
 unfolding exist orElse
 card-person people doors k d p e exists some card =
-    let told = exists (recordOf people 0 doors [] [] [] [] [] [] [] []) refl refl in
+    let told = exists (recordOf (plan people 0 doors [] [] []) [] [] [] [] []) refl refl in
     ltb-true p people (rw card at (and-right (ltb d doors) _ (sym told ∙ not-false e some)))
 
 -- ---- what the tests of a step tell: e whether the numbers exist, a what the table says of the door's phase

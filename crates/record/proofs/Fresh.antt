@@ -6,7 +6,7 @@ use mathlib.Core.List.{List}
 use mathlib.Core.Logic.{⊎-elim}
 use lib.ListN.{length, getD, length-replicate, getD-replicate, List·getD-eq-default}
 use lib.Dec.{lit≤}
-use Rattle.tables.specs.Tables.{mayBe, orElse, andAlso}
+use Rattle.tables.specs.Tables.{Plan, mayBe, orElse, andAlso, mostPeople, mostLocations, mostDoors}
 use Rattle.tables.specs.Rules.{Lawful}
 use Rattle.record.specs.declared.record.Record.{Record}
 use Rattle.phases.specs.Phase.{keeps, grants, lit, leastCount, mostCount}
@@ -43,37 +43,34 @@ free-ok r d =
       may = λ e. absurd (false≢true e);
     }
 
-module _ (people locations doors : ℕ) (origin destination exit : List ℕ) (right : List Bool) where
+module _ (site : Plan) (right : List Bool) where
   -- every door of a fresh record is free
-  pub fresh-free : (d : ℕ) → doorOf (freshRecord people locations doors origin destination exit right) d ≡ freeDoor
-  fresh-free d = let z = zeros-at 64 d in λ i. door (z i) (z i) (z i)
+  pub fresh-free : (d : ℕ) → doorOf (freshRecord site right) d ≡ freeDoor
+  fresh-free d = let z = zeros-at mostDoors d in λ i. door (z i) (z i) (z i)
 
   -- everyone is outside
-  pub fresh-outside : (p : ℕ) → getD (freshRecord people locations doors origin destination exit right .place) p 0 ≡ 0
-  fresh-outside p = zeros-at 64 p
+  pub fresh-outside : (p : ℕ) → getD (freshRecord site right .place) p 0 ≡ 0
+  fresh-outside p = zeros-at mostPeople p
 
-  pub fresh-sound : Lawful people locations doors origin destination exit right → ZeroBeyond people locations doors origin destination exit right
-      → Sound (freshRecord people locations doors origin destination exit right)
+  pub fresh-sound : Lawful mostPeople site right → ZeroBeyond site right → Sound (freshRecord site right)
   fresh-sound lawful zero =
       record {
-        tables = lawful;
+        tables = rw (zeros-long mostPeople) lawful;
         zero-tables = zero;
-        zero-places = λ p _. zeros-at 64 p;
+        zero-places = λ p _. zeros-at mostPeople p;
         zero-doors = λ d _. fresh-free d;
-        placed = λ p _. may-be-outside right p _ (zeros-at 64 p);
-        doors = λ d _. subst (DoorOk (freshRecord people locations doors origin destination exit right) d) (sym (fresh-free d)) (free-ok _ d);
+        placed = λ p _. may-be-outside right p _ (zeros-at mostPeople p);
+        doors = λ d _. subst (DoorOk (freshRecord site right) d) (sym (fresh-free d)) (free-ok _ d);
       }
 
-  pub fresh-shaped : length origin ≡ 64 → length destination ≡ 64 → length exit ≡ 32 → length right ≡ 2048
-      → Shaped (freshRecord people locations doors origin destination exit right)
-  fresh-shaped o t e r =
+  pub fresh-shaped : length (site .origin) ≡ mostDoors → length (site .destination) ≡ mostDoors → length (site .exit) ≡ mostLocations
+      → Shaped (freshRecord site right)
+  fresh-shaped o t e =
       record {
         origins = o;
         destinations = t;
         exits = e;
-        rights = r;
-        places = zeros-long 64;
-        phases = zeros-long 64;
-        holders = zeros-long 64;
-        counts = zeros-long 64;
+        phases = zeros-long mostDoors;
+        holders = zeros-long mostDoors;
+        counts = zeros-long mostDoors;
       }

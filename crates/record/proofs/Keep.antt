@@ -7,7 +7,7 @@ use mathlib.Core.Logic.{⊎-elim}
 use native.Mathlib.Omega.{arith}
 use lib.ListN.{length, getD, set, length-set}
 use lib.Seq.{getD-set-same, getD-set-other}
-use Rattle.tables.specs.Tables.{mayBe}
+use Rattle.tables.specs.Tables.{mayBe, mostDoors}
 use Rattle.door.specs.declared.Door.{Door}
 use Rattle.record.specs.declared.record.Record.{Record}
 use Rattle.phases.specs.Phase.{grants}
@@ -18,7 +18,7 @@ use Rattle.tables.proofs.Cases.{same-or-not}
 
 -- ---- what is read after a put
 
-pub put-same : (r : Record) → Shaped r → (d : ℕ) (c : Door) → d < 64 → doorOf (putDoor r d c) d ≡ c
+pub put-same : (r : Record) → Shaped r → (d : ℕ) (c : Door) → d < mostDoors → doorOf (putDoor r d c) d ≡ c
 put-same r sh d c h =
     let p : getD (set (r .phase) d (c .phase)) d 0 ≡ c .phase = getD-set-same (r .phase) d (c .phase) 0 (rw (sh .phases) h) in
     let q : getD (set (r .holder) d (c .holder)) d 0 ≡ c .holder = getD-set-same (r .holder) d (c .holder) 0 (rw (sh .holders) h) in
@@ -38,8 +38,6 @@ put-shaped r sh d c =
       origins = sh .origins;
       destinations = sh .destinations;
       exits = sh .exits;
-      rights = sh .rights;
-      places = sh .places;
       phases = length-set (r .phase) d (c .phase) ∙ sh .phases;
       holders = length-set (r .holder) d (c .holder) ∙ sh .holders;
       counts = length-set (r .count) d (c .count) ∙ sh .counts;
@@ -51,8 +49,6 @@ at-shaped r sh p l =
       origins = sh .origins;
       destinations = sh .destinations;
       exits = sh .exits;
-      rights = sh .rights;
-      places = length-set (r .place) p l ∙ sh .places;
       phases = sh .phases;
       holders = sh .holders;
       counts = sh .counts;
@@ -72,7 +68,7 @@ put-grant r d c p e ne g =
 -- ---- a door put anew
 
 -- x stays right for door e when door d is put, unless d is another door and takes a second grant of x's person
-carried : (r : Record) → Shaped r → (d : ℕ) (c : Door) → d < 64 → (e : ℕ) (x : Door)
+carried : (r : Record) → Shaped r → (d : ℕ) (c : Door) → d < mostDoors → (e : ℕ) (x : Door)
     → ((e ≡ d → ⊥) → grants (x .phase) ≡ true → grants (c .phase) ≡ true → c .holder ≡ x .holder → ⊥)
     → DoorOk r e x → DoorOk (putDoor r d c) e x
 carried r sh d c h e x apart ok =
@@ -109,7 +105,7 @@ put-sound r sh s d c h ok =
       doors = doors;
     }
   where
-    within : d < 64
+    within : d < mostDoors
     within = let most = s .tables .in-range .doors-to in omega arith
 
     doors : (e : ℕ) → e < r .doors → DoorOk (putDoor r d c) e (doorOf (putDoor r d c) e)
@@ -130,7 +126,7 @@ pub at-sound : (r : Record) → Shaped r → Sound r → (p l : ℕ) → p < r .
     → ((e : ℕ) → GrantAt (r .doors) (r .phase) (r .holder) p e → ⊥) → Sound (putAt r p l)
 at-sound r sh s p l h may none =
     record {
-      tables = s .tables;
+      tables = rw (length-set (r .place) p l) (s .tables);
       zero-tables = s .zero-tables;
       zero-places = λ q hq. getD-set-other (r .place) p q l 0 (λ is. omega arith) ∙ s .zero-places q hq;
       zero-doors = s .zero-doors;
@@ -139,7 +135,7 @@ at-sound r sh s p l h may none =
     }
   where
     within : p < length (r .place)
-    within = let most = s .tables .in-range .people-to in let long = sh .places in omega arith
+    within = let most = s .tables .in-range .people-to in omega arith
 
     placed : (q : ℕ) → q < r .people → mayBe (r .right) q (getD (set (r .place) p l) q 0) ≡ true
     placed q hq =

@@ -3,7 +3,7 @@
 --     done-did, allowed-does                   a step is done exactly when it may be, and does what its clause says
 --     unsound-14, absent-11, barred-12         the refusals, in their order
 --     sound-stays, shaped-stays                a sound record stays sound
---     tables-stay, others-stay, places-stay    a step alters nothing of the tables, of any other door and of anybody's place ..
+--     plan-stays, rights-stay, others-stay, places-stay    a step alters nothing of the plan, of the rights, of any other door and of anybody's place ..
 --     passed-moves                             .. except `passed`, which moves the held person and nobody else
 --     refused-stays, barred-stays              a refused step is no change
 --     denied-first                             the reason is the first that applies
@@ -12,7 +12,7 @@
 --     lapsed-frees                             after `lapsed` the person holds no grant
 --     green-burns, green-expires, red-burns, red-dims
 --                                              a light burns for exactly as many ticks of its door as its countdown says
---     run-sound, run-shaped, run-tables        the same of a whole list of steps
+--     run-sound, run-shaped, run-plan        the same of a whole list of steps
 -- Assumes nothing.
 use Prim.Native.Nat.{ℕ, suc, _≤_, _<_, _-_, _+_}
 use mathlib.Core.Path.{_≡_, refl, sym, ap, subst, _∙_}
@@ -21,10 +21,10 @@ use mathlib.Core.Logic.{_↔_, ⊎-elim}
 use native.Mathlib.Omega.{arith}
 use borrow.Author.Tests.{eqb-true, eqb-false, ltb-true, lt-ltb, le-ltb, eq-eqb, ne-eqb}
 use mathlib.Core.List.{List, [], _∷_}
-use lib.ListN.{getD}
+use lib.ListN.{length, getD, length-set}
 use lib.Dec.{eqb, ltb}
 use lib.Seq.{getD-set-same, getD-set-other}
-use Rattle.tables.specs.Tables.{orElse, andAlso}
+use Rattle.tables.specs.Tables.{Plan, orElse, andAlso, mostDoors}
 use Rattle.tables.proofs.Laws.{and-left, and-right, and-both, clash}
 use Rattle.door.specs.declared.Door.{Door}
 use Rattle.record.specs.declared.record.Record.{Record}
@@ -35,7 +35,7 @@ use Rattle.phases.specs.declared.answer.Answer.the-variants.{Done, NoSuch, NotA
 use Rattle.record.specs.declared.steps.Step.{Step}
 use Rattle.phases.specs.Phase.{free, granted, green, walked, expired, denied, red, dimmed, closed, keeps, grants, lit}
 use Rattle.door.specs.Door.{door}
-use Rattle.record.specs.Doors.{doorOf, Tables, tablesOf, Shaped}
+use Rattle.record.specs.Doors.{planOf, doorOf, Shaped}
 use Rattle.granting.specs.Grants.{GrantAt}
 use Rattle.record.specs.Sound.{Sound}
 use Rattle.record.specs.SoundTest.{soundB}
@@ -131,15 +131,33 @@ sound-stays r k d p sh s =
 pub shaped-stays : (r : Record) (k : Kind) (d p : ℕ) → Shaped r → Shaped (stepOf r k d p .next)
 shaped-stays r k d p sh = step-cases (λ x. Shaped (x .next)) r k d p (λ _ _ _. sh) (λ _. act-shaped r sh d (doing r k d p))
 
-act-tables : (r : Record) (d : ℕ) (x : Does) → tablesOf (act r d x .next) ≡ tablesOf r
+act-plan : (r : Record) (d : ℕ) (x : Does) → planOf (act r d x .next) ≡ planOf r
 unfolding act
-act-tables r d Stays = refl
-act-tables r d (Turns c why) = refl
-act-tables r d (Moves c) = refl
+act-plan r d Stays = refl
+act-plan r d (Turns c why) = refl
+act-plan r d (Moves c) = refl
 
-pub tables-stay : (r : Record) (k : Kind) (d p : ℕ) → tablesOf (stepOf r k d p .next) ≡ tablesOf r
-tables-stay r k d p =
-    step-cases (λ x. tablesOf (x .next) ≡ tablesOf r) r k d p (λ _ _ _. refl) (λ _. act-tables r d (doing r k d p))
+pub plan-stays : (r : Record) (k : Kind) (d p : ℕ) → planOf (stepOf r k d p .next) ≡ planOf r
+plan-stays r k d p = step-cases (λ x. planOf (x .next) ≡ planOf r) r k d p (λ _ _ _. refl) (λ _. act-plan r d (doing r k d p))
+
+act-rights : (r : Record) (d : ℕ) (x : Does) → act r d x .next .right ≡ r .right
+unfolding act
+act-rights r d Stays = refl
+act-rights r d (Turns c why) = refl
+act-rights r d (Moves c) = refl
+
+pub rights-stay : (r : Record) (k : Kind) (d p : ℕ) → stepOf r k d p .next .right ≡ r .right
+rights-stay r k d p = step-cases (λ x. x .next .right ≡ r .right) r k d p (λ _ _ _. refl) (λ _. act-rights r d (doing r k d p))
+
+act-room : (r : Record) (d : ℕ) (x : Does) → length (act r d x .next .place) ≡ length (r .place)
+unfolding act
+act-room r d Stays = refl
+act-room r d (Turns c why) = refl
+act-room r d (Moves c) = length-set (r .place) (getD (r .holder) d 0) (getD (r .destination) d 0)
+
+-- there is room for as many people as before
+pub room-stays : (r : Record) (k : Kind) (d p : ℕ) → length (stepOf r k d p .next .place) ≡ length (r .place)
+room-stays r k d p = step-cases (λ x. length (x .next .place) ≡ length (r .place)) r k d p (λ _ _ _. refl) (λ _. act-room r d (doing r k d p))
 
 act-others : (r : Record) (d : ℕ) (x : Does) (e : ℕ) → (e ≡ d → ⊥) → doorOf (act r d x .next) e ≡ doorOf r e
 unfolding act
@@ -199,7 +217,6 @@ passed-moves r d p sh s e =
     let ok = s .doors d (w .0 .a-door) in
     let held : getD (r .holder) d 0 < r .people = ok .held (walked-keeps (getD (r .phase) d 0) (eqb-true _ _ (w .0 .allowed))) in
     let most = s .tables .in-range .people-to in
-    let long = sh .places in
     rw (w .1)
     (record {
       mover = getD-set-same (r .place) (getD (r .holder) d 0) (getD (r .destination) d 0) 0 (omega arith);
@@ -238,7 +255,7 @@ tells Stays = 0
 tells (Turns x why) = why
 tells (Moves x) = 0
 
-act-door : (r : Record) → Shaped r → (d : ℕ) → d < 64 → (x : Does) → doorOf (act r d x .next) d ≡ becomes (doorOf r d) x
+act-door : (r : Record) → Shaped r → (d : ℕ) → d < mostDoors → (x : Does) → doorOf (act r d x .next) d ≡ becomes (doorOf r d) x
 unfolding act
 act-door r sh d h Stays = refl
 act-door r sh d h (Turns c why) = put-same r sh d c h
@@ -458,7 +475,7 @@ calm-burns ph d h rows (step {row} {rows = rest} calm calms) r n b =
     (record {
       shaped = shaped-stays r k (row .at) (row .person) (b .shaped);
       sound = sound-stays r k (row .at) (row .person) (b .shaped) (b .sound);
-      exists = rw (ap (λ (t : Tables). t .doors) (tables-stay r k (row .at) (row .person))) (b .exists);
+      exists = rw (ap (λ (site : Plan). site .doors) (plan-stays r k (row .at) (row .person))) (b .exists);
       burns = b .burns;
       now = one .1;
       more = omega arith;
@@ -558,8 +575,8 @@ unfolding lastOf
 run-shaped r [] sh = sh
 run-shaped r (row ∷ rows) sh = run-shaped (rowOf r row .next) rows (shaped-stays r (row .kind) (row .at) (row .person) sh)
 
--- and keeps its tables
-pub run-tables : (r : Record) (rows : List StepRow) → tablesOf (lastOf r rows) ≡ tablesOf r
+-- and keeps its plan
+pub run-plan : (r : Record) (rows : List StepRow) → planOf (lastOf r rows) ≡ planOf r
 unfolding lastOf
-run-tables r [] = refl
-run-tables r (row ∷ rows) = run-tables (rowOf r row .next) rows ∙ tables-stay r (row .kind) (row .at) (row .person)
+run-plan r [] = refl
+run-plan r (row ∷ rows) = run-plan (rowOf r row .next) rows ∙ plan-stays r (row .kind) (row .at) (row .person)

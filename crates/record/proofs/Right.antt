@@ -13,7 +13,7 @@ use Rattle.door.specs.declared.Door.{Door}
 use Rattle.record.specs.declared.record.Record.{Record}
 use Rattle.phases.specs.declared.table.Kind.{Kind}
 use Rattle.phases.specs.declared.table.Kind.the-variants.{Card, Decide, Green, Red, Walk, Tick, Passed, Lapsed, Dark, Ack, Unknown}
-use Rattle.phases.specs.Phase.{free, read, granted, green, walked, expired, denied, red, dimmed, closed, keeps, grants, lit, leastCount, mostCount}
+use Rattle.phases.specs.Phase.{free, read, granted, green, walked, expired, denied, red, dimmed, closed, greenSpan, redSpan, keeps, grants, lit, leastCount, mostCount}
 use Rattle.door.specs.Door.{door}
 use Rattle.record.specs.Doors.{doorOf, putDoor, Shaped}
 use Rattle.record.specs.Sound.{DoorOk, Sound}
@@ -192,8 +192,8 @@ module _ (r : Record) (d : ℕ) (ok : DoorOk r d (doorOf r d)) where
   unfolding allows effect keeps grants leastCount mostCount lit andAlso orElse
   right Card p why e exists reason = right-card p why (exists refl)
   right Decide p why e exists reason = right-decide p why (eqb-true _ _ e) (reason refl)
-  right Green p why e exists reason = right-on green 300 (lit≤ tt) refl (lit≤ tt) (lit≤ tt) (⊎-elim (λ q. rw q) (λ q. rw q) (one-of (getD (r .phase) d 0) granted green e))
-  right Red p why e exists reason = right-off red 20 (lit≤ tt) refl refl (lit≤ tt) (lit≤ tt) (⊎-elim (λ q. rw q) (λ q. rw q) (one-of (getD (r .phase) d 0) denied red e))
+  right Green p why e exists reason = right-on green greenSpan (lit≤ tt) refl (lit≤ tt) (lit≤ tt) (⊎-elim (λ q. rw q) (λ q. rw q) (one-of (getD (r .phase) d 0) granted green e))
+  right Red p why e exists reason = right-off red redSpan (lit≤ tt) refl refl (lit≤ tt) (lit≤ tt) (⊎-elim (λ q. rw q) (λ q. rw q) (one-of (getD (r .phase) d 0) denied red e))
   right Walk p why e exists reason = right-on walked 0 (lit≤ tt) refl (lit≤ tt) (lit≤ tt) (rw (eqb-true (getD (r .phase) d 0) green e))
   right Tick p why e exists reason = right-tick p why
   right Passed p why e exists reason =

@@ -8,7 +8,7 @@ use native.Mathlib.Omega.{arith}
 use borrow.Author.Tests.{not-true, not-false}
 use lib.ListN.{length, getD, set, drop, length-set, drop-of-length-le}
 use lib.Seq.{sets, drop-cons}
-use Rattle.tables.specs.Tables.{andAlso}
+use Rattle.tables.specs.Tables.{andAlso, mostPeople}
 use Rattle.tables.proofs.Laws.{tell-and, tell-le}
 use Rattle.record.specs.declared.record.Record.{Record}
 use Rattle.record.specs.declared.steps.Step.{Step}
@@ -21,7 +21,7 @@ use Rattle.record.specs.Sound.{Sound}
 use Rattle.record.specs.SoundTest.{soundB}
 use Rattle.record.specs.Steps.{soundStep, stepOf}
 use Rattle.record.specs.Run.{rowOf, rowsOf, lastOf, Reply, replyBy, repliesOf, answerTold, phaseTold, reasonTold, roomFor, ranOf, tellingOf}
-use Rattle.record.proofs.Laws.{sound-steps, sound-stays, shaped-stays}
+use Rattle.record.proofs.Laws.{sound-steps, sound-stays, shaped-stays, room-stays}
 
 -- the steps from the one at i on
 abbrev pub rowsFrom : List ℕ → List ℕ → List ℕ → ℕ → List StepRow
@@ -56,18 +56,20 @@ pub record Telling (tell : Reply → ℕ) (r₀ : Record) (rows₀ : List StepRo
 pub record Running (steps doors persons answers₀ phases₀ reasons₀ : List ℕ) (r₀ : Record) (answers phases reasons : List ℕ) (r : Record) (i : ℕ) : Type 0 where
   pub sound : Sound r
   pub shaped : Shaped r
+  pub room : length (r .place) ≡ mostPeople
   pub low : i ≤ length steps
   pub last : lastOf r (rowsFrom steps doors persons i) ≡ lastOf r₀ (rowsOf steps doors persons)
   pub answered : Telling answerTold r₀ (rowsOf steps doors persons) answers₀ r (rowsFrom steps doors persons i) answers i
   pub phased : Telling phaseTold r₀ (rowsOf steps doors persons) phases₀ r (rowsFrom steps doors persons i) phases i
   pub reasoned : Telling reasonTold r₀ (rowsOf steps doors persons) reasons₀ r (rowsFrom steps doors persons i) reasons i
 
-pub run-start : {steps doors persons answers phases reasons : List ℕ} {r : Record} → Sound r → Shaped r
+pub run-start : {steps doors persons answers phases reasons : List ℕ} {r : Record} → Sound r → Shaped r → length (r .place) ≡ mostPeople
     → Running steps doors persons answers phases reasons r answers phases reasons r 0
-run-start s sh =
+run-start s sh room =
     record {
       sound = s;
       shaped = sh;
+      room = room;
       low = omega arith;
       last = refl;
       answered = record { long = refl; behind = refl };
@@ -108,6 +110,7 @@ module _ {steps doors persons answers₀ phases₀ reasons₀ : List ℕ} {r₀ 
       record {
         sound = rw step (sound-stays r k d p (run .shaped) (run .sound));
         shaped = rw step (shaped-stays r k d p (run .shaped));
+        room = rw step (room-stays r k d p ∙ run .room);
         low = omega arith;
         last = rw step (rw more at (run .last));
         answered = tell-more answerTold r₀ r _ _ _ (rowAt steps doors persons i) answers₀ answers i s more step (run .answered);

@@ -9,7 +9,7 @@ use native.Mathlib.Omega.{arith}
 use borrow.Author.Tests.{ltb-true, ltb-false, lt-ltb, le-ltb}
 use lib.ListN.{length, getD, List·getD-eq-default}
 use lib.Dec.{ltb, lit≤}
-use Rattle.tables.specs.Tables.{mayBe, orElse, andAlso}
+use Rattle.tables.specs.Tables.{Plan, mayBe, orElse, andAlso, mostLocations, mostDoors}
 use Rattle.tables.specs.Below.{allBelow, Tells}
 use Rattle.tables.specs.Rules.{Lawful}
 use Rattle.tables.proofs.Answers.{lawful-tells}
@@ -18,7 +18,7 @@ use Rattle.door.specs.declared.Door.{Door}
 use Rattle.record.specs.declared.record.Record.{Record}
 use Rattle.phases.specs.Phase.{closed, keeps, grants, lit, leastCount, mostCount}
 use Rattle.door.specs.Door.{freeDoor}
-use Rattle.record.specs.Doors.{doorOf, Shaped}
+use Rattle.record.specs.Doors.{planOf, doorOf, Shaped}
 use Rattle.granting.specs.Grants.{GrantAt, hasGrant}
 use Rattle.record.specs.Sound.{rightAt, ZeroBeyond, Sound}
 use Rattle.soundness.specs.SoundTest.{zeroAt, zeroFrom, rightFits, rightsFit, placeFits, placesFit, doorFits, doorsFit}
@@ -70,32 +70,32 @@ tell-zero count table =
 
 -- a right at i is one of a person to a location other than 0
 abbrev RightOk : ℕ → ℕ → List Bool → ℕ → Type 0
-RightOk people locations right i = getD right i false ≡ true → (i / 32 < people) × ((0 < i % 32) × (i % 32 < locations))
+RightOk people locations right i = getD right i false ≡ true → (i / mostLocations < people) × ((0 < i % mostLocations) × (i % mostLocations < locations))
 
 tell-rights : (people locations : ℕ) (right : List Bool) → Tells (rightsFit people locations right) ((i : ℕ) → RightOk people locations right i)
 unfolding rightsFit rightFits
 tell-rights people locations right =
     tell-list (rightFits people locations right) (RightOk people locations right) (length right)
-    (λ i. tell-when (getD right i false) (tell-and (tell-lt (i / 32) people) (tell-and (tell-lt 0 (i % 32)) (tell-lt (i % 32) locations))))
+    (λ i. tell-when (getD right i false) (tell-and (tell-lt (i / mostLocations) people) (tell-and (tell-lt 0 (i % mostLocations)) (tell-lt (i % mostLocations) locations))))
     (λ i h e. clash e (List·getD-eq-default right false h))
 
 -- the test of the tables' ends tells that they hold 0 beyond the counts
-module _ (people locations doors : ℕ) (origin destination exit : List ℕ) (right : List Bool) where
-  rights-end : ZeroBeyond people locations doors origin destination exit right → (i : ℕ) → RightOk people locations right i
+module _ (site : Plan) (right : List Bool) where
+  rights-end : ZeroBeyond site right → (i : ℕ) → RightOk (site .people) (site .locations) right i
   rights-end z i e =
-      let e′ : rightAt right (i / 32) (i % 32) ≡ true = rw (div-add-mod' i 32) e in
-      let small : i % 32 < 32 = omega arith in (
-        ⊎-elim (λ h. h) (λ h. clash e′ (z .rights-of (i / 32) (i % 32) h small)) (below-or-not (i / 32) people),
+      let e′ : rightAt right (i / mostLocations) (i % mostLocations) ≡ true = rw (div-add-mod' i mostLocations) e in
+      let small : i % mostLocations < mostLocations = omega arith in (
+        ⊎-elim (λ h. h) (λ h. clash e′ (z .rights-of (i / mostLocations) (i % mostLocations) h small)) (below-or-not (i / mostLocations) (site .people)),
         (
-          ⊎-elim (λ h. h) (λ h. clash e′ (outside (i / 32) (i % 32) h)) (below-or-not 0 (i % 32)),
-          ⊎-elim (λ h. h) (λ h. clash e′ (z .rights-to (i / 32) (i % 32) h small)) (below-or-not (i % 32) locations),
+          ⊎-elim (λ h. h) (λ h. clash e′ (outside (i / mostLocations) (i % mostLocations) h)) (below-or-not 0 (i % mostLocations)),
+          ⊎-elim (λ h. h) (λ h. clash e′ (z .rights-to (i / mostLocations) (i % mostLocations) h small)) (below-or-not (i % mostLocations) (site .locations)),
         ),
       )
     where
       outside : (p l : ℕ) → l ≤ 0 → rightAt right p l ≡ false
       outside p l h = let zero : l ≡ 0 = omega arith in rw zero (z .rights-to-outside p)
 
-  pub ends-tell : Tells (zeroBeyond people locations doors origin destination exit right) (ZeroBeyond people locations doors origin destination exit right)
+  pub ends-tell : Tells (zeroBeyond site right) (ZeroBeyond site right)
   unfolding zeroBeyond
   ends-tell =
       tell-as
@@ -103,16 +103,16 @@ module _ (people locations doors : ℕ) (origin destination exit : List ℕ) (ri
         origins = t .0;
         destinations = t .1 .0;
         exits = t .1 .1 .0;
-        rights-of = λ p l h k. untrue _ (λ e. let a = t .1 .1 .1 .1 (p * 32 + l) e in omega arith);
-        rights-to = λ p l h k. untrue _ (λ e. let a = t .1 .1 .1 .1 (p * 32 + l) e in omega arith);
+        rights-of = λ p l h k. untrue _ (λ e. let a = t .1 .1 .1 .1 (p * mostLocations + l) e in omega arith);
+        rights-to = λ p l h k. untrue _ (λ e. let a = t .1 .1 .1 .1 (p * mostLocations + l) e in omega arith);
         exit-of-outside = t .1 .1 .1 .0;
-        rights-to-outside = λ p. untrue _ (λ e. let a = t .1 .1 .1 .1 (p * 32 + 0) e in omega arith);
+        rights-to-outside = λ p. untrue _ (λ e. let a = t .1 .1 .1 .1 (p * mostLocations + 0) e in omega arith);
       })
       (λ z. (z .origins, (z .destinations, (z .exits, (z .exit-of-outside, rights-end z)))))
-      (tell-and (tell-zero doors origin)
-      (tell-and (tell-zero doors destination)
-      (tell-and (tell-zero locations exit)
-      (tell-and (tell-eq (getD exit 0 0) 0) (tell-rights people locations right)))))
+      (tell-and (tell-zero (site .doors) (site .origin))
+      (tell-and (tell-zero (site .doors) (site .destination))
+      (tell-and (tell-zero (site .locations) (site .exit))
+      (tell-and (tell-eq (getD (site .exit) 0 0) 0) (tell-rights (site .people) (site .locations) right)))))
 
 abbrev pub PlaceOk : ℕ → List Bool → List ℕ → ℕ → Type 0
 PlaceOk people right place p = (p < people → mayBe right p (getD place p 0) ≡ true) × ((p < people → ⊥) → getD place p 0 ≡ 0)
@@ -150,7 +150,7 @@ abbrev AtDoor : Record → ℕ → Type 0
 AtDoor r d = (d < r .doors → FieldsOk (r .people) (doorOf r d)) × ((d < r .doors → ⊥) → doorOf r d ≡ freeDoor)
 
 -- past the arrays' ends every door reads as free
-past-free : (r : Record) → Shaped r → (d : ℕ) → 64 ≤ d → doorOf r d ≡ freeDoor
+past-free : (r : Record) → Shaped r → (d : ℕ) → mostDoors ≤ d → doorOf r d ≡ freeDoor
 past-free r sh d h =
     let p : getD (r .phase) d 0 ≡ 0 = List·getD-eq-default (r .phase) 0 (rw (sh .phases) h) in
     let q : getD (r .holder) d 0 ≡ 0 = List·getD-eq-default (r .holder) 0 (rw (sh .holders) h) in
@@ -164,7 +164,7 @@ free-fields people = (lit≤ tt, ((λ e. absurd (false≢true e), λ _. refl), (
 tell-doors : (r : Record) → Shaped r → Tells (doorsFit (r .people) (r .doors) (r .phase) (r .holder) (r .count)) ((d : ℕ) → AtDoor r d)
 unfolding doorsFit doorFits
 tell-doors r sh =
-    tell-list (doorFits (r .people) (r .doors) (r .phase) (r .holder) (r .count)) (AtDoor r) 64
+    tell-list (doorFits (r .people) (r .doors) (r .phase) (r .holder) (r .count)) (AtDoor r) mostDoors
     (λ d. tell-cond (ltb d (r .doors)) (ltb-true d (r .doors)) (lt-ltb d (r .doors)) (tell-fields (r .people) (doorOf r d)) (tell-free (doorOf r d)))
     (λ d h. let z = past-free r sh d h in (λ _. subst (FieldsOk (r .people)) (sym z) (free-fields (r .people)), λ _. z))
 
@@ -173,10 +173,10 @@ GrantOk r d =
     grants (getD (r .phase) d 0) ≡ true
     → (getD (r .place) (getD (r .holder) d 0) 0 ≡ getD (r .origin) d 0) × (mayBe (r .right) (getD (r .holder) d 0) (getD (r .destination) d 0) ≡ true)
 
-tell-grants : (r : Record) → Tells (grantsFit (r .doors) (r .origin) (r .destination) (r .right) (r .place) (r .phase) (r .holder)) ((d : ℕ) → d < r .doors → GrantOk r d)
+tell-grants : (r : Record) → Tells (grantsFit (planOf r) (r .right) (r .place) (r .phase) (r .holder)) ((d : ℕ) → d < r .doors → GrantOk r d)
 unfolding grantsFit grantFits
 tell-grants r =
-    tell-all (grantFits (r .origin) (r .destination) (r .right) (r .place) (r .phase) (r .holder)) (GrantOk r) (r .doors)
+    tell-all (grantFits (planOf r) (r .right) (r .place) (r .phase) (r .holder)) (GrantOk r) (r .doors)
     (λ d. tell-when (grants (getD (r .phase) d 0)) (tell-and (tell-eq _ (getD (r .origin) d 0)) (tell-itself _)))
 
 abbrev pub SoleOk : List ℕ → List ℕ → ℕ → Type 0
@@ -202,8 +202,8 @@ sole-alone doors phase holder sole d h g e ne other =
 
 -- what the tests tell, each
 record Parts (r : Record) : Type 0 where
-  lawful : Lawful (r .people) (r .locations) (r .doors) (r .origin) (r .destination) (r .exit) (r .right)
-  ends : ZeroBeyond (r .people) (r .locations) (r .doors) (r .origin) (r .destination) (r .exit) (r .right)
+  lawful : Lawful (length (r .place)) (planOf r) (r .right)
+  ends : ZeroBeyond (planOf r) (r .right)
   places : (p : ℕ) → PlaceOk (r .people) (r .right) (r .place) p
   doors : (d : ℕ) → AtDoor r d
   grant : (d : ℕ) → d < r .doors → GrantOk r d
@@ -215,8 +215,8 @@ tell-parts r sh =
     tell-as
     (λ t. record { lawful = t .0; ends = t .1 .0; places = t .1 .1 .0; doors = t .1 .1 .1 .0; grant = t .1 .1 .1 .1 .0; sole = t .1 .1 .1 .1 .1 })
     (λ p. (p .lawful, (p .ends, (p .places, (p .doors, (p .grant, p .sole))))))
-    (tell-and (lawful-tells (r .people) (r .locations) (r .doors) (r .origin) (r .destination) (r .exit) (r .right))
-    (tell-and (ends-tell (r .people) (r .locations) (r .doors) (r .origin) (r .destination) (r .exit) (r .right))
+    (tell-and (lawful-tells (length (r .place)) (planOf r) (r .right))
+    (tell-and (ends-tell (planOf r) (r .right))
     (tell-and (tell-places (r .people) (r .right) (r .place))
     (tell-and (tell-doors r sh) (tell-and (tell-grants r) (tell-sole (r .doors) (r .phase) (r .holder)))))))
 

@@ -5,7 +5,7 @@ use mathlib.Core.Path.{_≡_}
 use mathlib.Core.Bool.{Bool}
 use mathlib.Core.List.{List}
 use lib.ListN.{getD}
-use Rattle.tables.specs.Tables.{mostPeople}
+use Rattle.tables.specs.Tables.{Plan, mostPeople}
 use Rattle.record.specs.declared.record.Record.{Record}
 use Rattle.phases.specs.declared.table.Kind.{Kind}
 use Rattle.phases.specs.declared.answer.Answer.the-variants.{Done}
@@ -14,20 +14,20 @@ use Rattle.record.specs.declared.steps.Told.{Told}
 use Rattle.record.specs.declared.steps.Deed.{Deed}
 use Rattle.record.specs.declared.steps.Deed.the-variants.{Tells, Puts, Leads}
 use Rattle.phases.specs.Phase.{closed}
-use Rattle.record.specs.Doors.{putDoor, putAt}
+use Rattle.record.specs.Doors.{planOf, putDoor, putAt}
 use Rattle.door.specs.declared.does.Does.the-variants.{Turns}
 use Rattle.record.specs.Steps.{act, refused, soundStep}
 
--- the record of these counts, tables and lists
-abbrev pub recordOf : ℕ → ℕ → ℕ → List ℕ → List ℕ → List ℕ → List Bool → List ℕ → List ℕ → List ℕ → List ℕ → Record
-recordOf people locations doors origin destination exit right place phase holder count =
+-- the record of this plan, these rights and these lists
+abbrev pub recordOf : Plan → List Bool → List ℕ → List ℕ → List ℕ → List ℕ → Record
+recordOf site right place phase holder count =
     record {
-      people = people;
-      locations = locations;
-      doors = doors;
-      origin = origin;
-      destination = destination;
-      exit = exit;
+      people = site .people;
+      locations = site .locations;
+      doors = site .doors;
+      origin = site .origin;
+      destination = site .destination;
+      exit = site .exit;
       right = right;
       place = place;
       phase = phase;
@@ -37,7 +37,7 @@ recordOf people locations doors origin destination exit right place phase holder
 
 -- the record with these places and doors, its tables as they were
 abbrev pub holding : Record → List ℕ → List ℕ → List ℕ → List ℕ → Record
-holding r = recordOf (r .people) (r .locations) (r .doors) (r .origin) (r .destination) (r .exit) (r .right)
+holding r = recordOf (planOf r) (r .right)
 
 -- a step that hands this record back and tells this
 abbrev pub telling : Record → Told → Step
@@ -55,8 +55,6 @@ pub record Known (people : ℕ) (phase : List ℕ) : Type 0 where
   pub phases : (d : ℕ) → getD phase d 0 ≤ closed
 
 -- the deed is what `soundStep` says
-abbrev pub Judged : ℕ → ℕ → List ℕ → List ℕ → List Bool → List ℕ → List ℕ → List ℕ → List ℕ → Kind → ℕ → ℕ → Deed → Type 0
-Judged people doors origin destination right place phase holder count k d p deed =
-    (locations : ℕ) (exit : List ℕ)
-    → carried (recordOf people locations doors origin destination exit right place phase holder count) d deed
-    ≡ soundStep (recordOf people locations doors origin destination exit right place phase holder count) k d p
+abbrev pub Judged : Plan → List Bool → List ℕ → List ℕ → List ℕ → List ℕ → Kind → ℕ → ℕ → Deed → Type 0
+Judged site right place phase holder count k d p deed =
+    carried (recordOf site right place phase holder count) d deed ≡ soundStep (recordOf site right place phase holder count) k d p

@@ -3,14 +3,14 @@ use Prim.Native.Nat.{ℕ, _+_, _*_, _≤_, _<_}
 use mathlib.Core.Path.{_≡_}
 use mathlib.Core.Bool.{Bool, true, false}
 use mathlib.Core.List.{List}
-use lib.ListN.{getD}
-use Rattle.tables.specs.Tables.{mayBe, mostLocations}
+use lib.ListN.{length, getD}
+use Rattle.tables.specs.Tables.{Plan, mayBe, mostLocations}
 use Rattle.tables.specs.Rules.{Lawful}
 use Rattle.door.specs.declared.Door.{Door}
 use Rattle.record.specs.declared.record.Record.{Record}
 use Rattle.phases.specs.Phase.{closed, keeps, grants, leastCount, mostCount}
 use Rattle.door.specs.Door.{freeDoor}
-use Rattle.record.specs.Doors.{doorOf}
+use Rattle.record.specs.Doors.{planOf, doorOf}
 use Rattle.granting.specs.Grants.{GrantAt}
 
 -- the entry of the rights' table for person p and location l
@@ -18,13 +18,13 @@ abbrev pub rightAt : List Bool → ℕ → ℕ → Bool
 rightAt right p l = getD right (p * mostLocations + l) false
 
 -- "Places beyond the counts are 0, and so are location 0's own exit and rights.": what that says of the tables
-pub record ZeroBeyond (people locations doors : ℕ) (origin destination exit : List ℕ) (right : List Bool) : Type 0 where
-  pub origins : (d : ℕ) → doors ≤ d → getD origin d 0 ≡ 0
-  pub destinations : (d : ℕ) → doors ≤ d → getD destination d 0 ≡ 0
-  pub exits : (l : ℕ) → locations ≤ l → getD exit l 0 ≡ 0
-  pub rights-of : (p l : ℕ) → people ≤ p → l < mostLocations → rightAt right p l ≡ false
-  pub rights-to : (p l : ℕ) → locations ≤ l → l < mostLocations → rightAt right p l ≡ false
-  pub exit-of-outside : getD exit 0 0 ≡ 0
+pub record ZeroBeyond (site : Plan) (right : List Bool) : Type 0 where
+  pub origins : (d : ℕ) → site .doors ≤ d → getD (site .origin) d 0 ≡ 0
+  pub destinations : (d : ℕ) → site .doors ≤ d → getD (site .destination) d 0 ≡ 0
+  pub exits : (l : ℕ) → site .locations ≤ l → getD (site .exit) l 0 ≡ 0
+  pub rights-of : (p l : ℕ) → site .people ≤ p → l < mostLocations → rightAt right p l ≡ false
+  pub rights-to : (p l : ℕ) → site .locations ≤ l → l < mostLocations → rightAt right p l ≡ false
+  pub exit-of-outside : getD (site .exit) 0 0 ≡ 0
   pub rights-to-outside : (p : ℕ) → rightAt right p 0 ≡ false
 
 -- "each door's fields fit": c is right for door d of the record
@@ -47,10 +47,10 @@ pub record DoorOk (r : Record) (d : ℕ) (c : Door) : Type 0 where
 
 -- "A record is sound when"
 pub record Sound (r : Record) : Type 0 where
-  -- "its tables pass 3 and 6 to 10"
-  pub tables : Lawful (r .people) (r .locations) (r .doors) (r .origin) (r .destination) (r .exit) (r .right)
+  -- "its tables pass 3 and 6 to 10"; there is room for as many people as it keeps locations for
+  pub tables : Lawful (length (r .place)) (planOf r) (r .right)
   -- "the places named above are 0": in the tables, of the people's locations, and of the doors
-  pub zero-tables : ZeroBeyond (r .people) (r .locations) (r .doors) (r .origin) (r .destination) (r .exit) (r .right)
+  pub zero-tables : ZeroBeyond (planOf r) (r .right)
   pub zero-places : (p : ℕ) → r .people ≤ p → getD (r .place) p 0 ≡ 0
   pub zero-doors : (d : ℕ) → r .doors ≤ d → doorOf r d ≡ freeDoor
   -- "every person's location is one they may be in"

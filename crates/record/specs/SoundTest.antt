@@ -2,7 +2,7 @@
 use mathlib.Core.Bool.{Bool}
 use Rattle.soundness.specs.SoundTest.{listsSound}
 use Rattle.record.specs.declared.record.Record.{Record}
+use Rattle.record.specs.Doors.{planOf}
 
 unfoldable pub soundB : Record → Bool
-soundB r =
-    listsSound (r .people) (r .locations) (r .doors) (r .origin) (r .destination) (r .exit) (r .right) (r .place) (r .phase) (r .holder) (r .count)
+soundB r = listsSound (planOf r) (r .right) (r .place) (r .phase) (r .holder) (r .count)

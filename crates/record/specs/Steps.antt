@@ -14,7 +14,7 @@ use Rattle.record.specs.declared.steps.Told.{Told}
 use Rattle.door.specs.declared.does.Does.{Does}
 use Rattle.door.specs.declared.does.Does.the-variants.{Stays, Turns, Moves}
 use Rattle.door.specs.Does.{effect}
-use Rattle.record.specs.Doors.{doorOf, putDoor, putAt}
+use Rattle.record.specs.Doors.{planOf, doorOf, putDoor, putAt}
 use Rattle.phases.specs.Kinds.{allows, namesPerson}
 use Rattle.granting.specs.Grants.{GrantAt}
 use Rattle.granting.specs.Reasons.{firstReason}
@@ -22,7 +22,7 @@ use Rattle.record.specs.SoundTest.{soundB}
 
 -- the reason for which a record denies person p door d, 0 for none
 abbrev pub reasonFor : Record → ℕ → ℕ → ℕ
-reasonFor r d p = firstReason (r .doors) (r .origin) (r .destination) (r .right) (r .place) (r .phase) (r .holder) d p
+reasonFor r d p = firstReason (planOf r) (r .right) (r .place) (r .phase) (r .holder) d p
 
 -- "Granted when the person is at the door's origin, has a right to its destination and has no grant."
 pub record Admitted (r : Record) (d p : ℕ) : Type 0 where

@@ -1,6 +1,7 @@
 // The record: the tables of a site, where each person is, and the phase, the person and the
 // countdown of each door; and whether it is sound.
 ghost use mathlib.Core.Path.{_≡_};
+ghost use Rattle.tables.specs.Tables.{plan};
 ghost use Rattle.record.specs.Doors.{freshRecord};
 ghost use Rattle.record.specs.SoundTest.{soundB};
 ghost use Rattle.record.specs.Deeds.{holding};
@@ -12,7 +13,7 @@ use tables::MOST_PEOPLE;
 use tables::MOST_RIGHTS;
 
 // The tables: the counts, each door's origin and destination, each location's exit, and the rights,
-// 32 to a person. Beside them: the location of each person, and for each door its phase, the person
+// MOST_LOCATIONS to a person. Beside them: the location of each person, and for each door its phase, the person
 // whom it holds and its countdown.
 #[repr(C)]
 pub struct Record {
@@ -40,7 +41,7 @@ impl Record {
         exit: [u8; MOST_LOCATIONS],
         right: [bool; MOST_RIGHTS],
     ) -> Self
-        ensures { λ r. ⌜ r ≡ freshRecord people locations doors origin destination exit right ⌝ }
+        ensures { λ r. ⌜ r ≡ freshRecord (plan people locations doors origin destination exit) right ⌝ }
     {
         let free = Door::free();
         let phase = free.phase;

@@ -1,9 +1,10 @@
 // The ten steps, by value: each takes a record and hands the next record back with its answer, the
 // door's phase afterwards and the reason.
 ghost use mathlib.Core.Path.{_≡_};
+ghost use mathlib.Core.List.{List};
 ghost use Prim.Native.Nat.{ℕ, _<_};
 ghost use lib.ListN.{getD, set};
-ghost use Rattle.tables.specs.Tables.{mostPeople};
+ghost use Rattle.tables.specs.Tables.{plan, mostPeople};
 ghost use Rattle.phases.specs.Kinds.{kindOf};
 ghost use Rattle.granting.specs.Reasons.{firstReason};
 ghost use Rattle.record.specs.Steps.{exist, refused, act, stepOf};
@@ -63,7 +64,7 @@ fn reason_for<'a>(
     door: usize,
     person: usize,
 ) -> u8
-    ensures { λ r. ⌜ (kind ≡ Kind.Decide → r ≡ firstReason doors (now (origin .entry)) (now (destination .entry)) (now (right .entry)) (now (place .entry)) (now (phase .entry)) (now (holder .entry)) door person) ⌝ }
+    ensures { λ r. ⌜ (kind ≡ Kind.Decide → (people locations : ℕ) (exit : List ℕ) → r ≡ firstReason (plan people locations doors (now (origin .entry)) (now (destination .entry)) exit) (now (right .entry)) (now (place .entry)) (now (phase .entry)) (now (holder .entry)) door person) ⌝ }
 {
     let Kind::Decide = kind else {
         return Reason::NONE;
@@ -132,7 +133,7 @@ pub(crate) fn judge<'a>(
     person: usize,
 ) -> Deed
     requires { ⌜ Known people (now phase) ⌝ }
-    ensures { λ r. ⌜ Judged people doors (now (origin .entry)) (now (destination .entry)) (now (right .entry)) (now (place .entry)) (now (phase .entry)) (now (holder .entry)) (now (count .entry)) kind door person r ⌝ }
+    ensures { λ r. ⌜ ((locations : ℕ) (exit : List ℕ) → Judged (plan people locations doors (now (origin .entry)) (now (destination .entry)) exit) (now (right .entry)) (now (place .entry)) (now (phase .entry)) (now (holder .entry)) (now (count .entry)) kind door person r) ⌝ }
 {
     if !exist(people, doors, kind, door, person) {
         return Deed::Tells(Answer::NoSuch, UNTOLD);

@@ -1,13 +1,14 @@
 // The rules of a site's tables, and the way out of a location.
 //
 // The tables are lent, never copied: `origin` and `destination` have an entry for each door, `exit`
-// one for each location, `right` 32 for each person. Past the end of a table an entry is 0, and a
+// one for each location, `right` MOST_LOCATIONS for each person. Past the end of a table an entry is 0, and a
 // right is not given. Location 0 is outside, and everybody's.
 ghost use mathlib.Core.Path.{_≡_};
 ghost use Prim.Native.Nat.{ℕ, _+_, _≤_};
+ghost use mathlib.Core.List.{List};
 ghost use lib.ListN.{length};
 ghost use lib.Seq.{sets};
-ghost use Rattle.tables.specs.Tables.{mayBe};
+ghost use Rattle.tables.specs.Tables.{plan, mayBe};
 ghost use Rattle.tables.specs.Below.{allBelow, someBelow, leastBelow, isNothing, noPair};
 ghost use Rattle.tables.specs.Way.{unvisited, wayOut, wayOf, wayToldIn, wayWrittenIn};
 ghost use Rattle.tables.specs.Tests.{doorInRange, exitInRange, countsFit, planInRange, lacksExit, firstNoExit};
@@ -16,7 +17,6 @@ ghost use Rattle.tables.specs.Tests.{lacksRight, firstNoRight, letsIn, shutOut,
 use tables::Found;
 use tables::MOST_DOORS;
 use tables::MOST_LOCATIONS;
-use tables::MOST_PEOPLE;
 use tables::RightFound;
 use tables::WayTold;
 use tables::lists::byte_at;
@@ -91,14 +91,14 @@ fn exits_fit(locations: usize, exit: &[u8]) -> bool
     true
 }
 
-// Rule 3: whether the counts are in their ranges.
-fn counts_fit(people: usize, locations: usize, doors: usize) -> bool
-    ensures { λ r. ⌜ r ≡ countsFit people locations doors ⌝ }
+// Rule 3: whether the counts are in their ranges, where there is room for so many people.
+fn counts_fit(most: usize, people: usize, locations: usize, doors: usize) -> bool
+    ensures { λ r. ⌜ r ≡ countsFit most people locations doors ⌝ }
 {
     if people < 1 {
         return false;
     }
-    if MOST_PEOPLE < people {
+    if most < people {
         return false;
     }
     if locations < 2 {
@@ -110,9 +110,10 @@ fn counts_fit(people: usize, locations: usize, doors: usize) -> bool
     doors <= MOST_DOORS
 }
 
-// Rule 3: whether the counts are in their ranges, each door is from a location to another one, and
-// each exit is a location.
+// Rule 3: whether the counts are in their ranges, where there is room for so many people, each door
+// is from a location to another one, and each exit is a location.
 pub fn in_range<'a>(
+    most: usize,
     people: usize,
     locations: usize,
     doors: usize,
@@ -120,9 +121,9 @@ pub fn in_range<'a>(
     destination: &'a [u8],
     exit: &'a [u8],
 ) -> bool
-    ensures { λ r. ⌜ r ≡ planInRange people locations doors (now (origin .entry)) (now (destination .entry)) (now (exit .entry)) ⌝ }
+    ensures { λ r. ⌜ r ≡ planInRange most (plan people locations doors (now (origin .entry)) (now (destination .entry)) (now (exit .entry))) ⌝ }
 {
-    if !counts_fit(people, locations, doors) {
+    if !counts_fit(most, people, locations, doors) {
         return false;
     }
     if !doors_fit(locations, doors, origin, destination) {
@@ -289,7 +290,7 @@ pub fn first_no_door<'a>(
     destination: &'a [u8],
     exit: &'a [u8],
 ) -> Found
-    ensures { λ r. ⌜ r ≡ firstNoDoor locations doors (now (origin .entry)) (now (destination .entry)) (now (exit .entry)) ⌝ }
+    ensures { λ r. ⌜ ((people : ℕ) → r ≡ firstNoDoor (plan people locations doors (now (origin .entry)) (now (destination .entry)) (now (exit .entry)))) ⌝ }
 {
     let mut location = 0;
     while location < locations {
@@ -364,7 +365,7 @@ pub fn first_no_right<'a>(
     exit: &'a [u8],
     right: &'a [bool],
 ) -> RightFound
-    ensures { λ r. ⌜ r ≡ firstNoRight people locations (now (exit .entry)) (now (right .entry)) ⌝ }
+    ensures { λ r. ⌜ ((doors : ℕ) (origin destination : List ℕ) → r ≡ firstNoRight (plan people locations doors origin destination (now (exit .entry))) (now (right .entry))) ⌝ }
 {
     let Found::At(person) = first_who_lacks(people, locations, exit, right) else {
         return RightFound::Nothing;
@@ -434,7 +435,7 @@ pub fn first_shut_out<'a>(
     destination: &'a [u8],
     right: &'a [bool],
 ) -> Found
-    ensures { λ r. ⌜ r ≡ firstShutOut people doors (now (origin .entry)) (now (destination .entry)) (now (right .entry)) ⌝ }
+    ensures { λ r. ⌜ ((locations : ℕ) (exit : List ℕ) → r ≡ firstShutOut (plan people locations doors (now (origin .entry)) (now (destination .entry)) exit) (now (right .entry))) ⌝ }
 {
     let mut person = 0;
     while person < people {
@@ -469,9 +470,10 @@ fn no_pair(found: RightFound) -> bool
     }
 }
 
-// Whether the tables of a record pass 3 and 7 to 10, each finished before the next. (In a record
-// every location has an exit, so that 6 asks nothing.)
+// Whether the tables of a record with room for so many people pass 3 and 7 to 10, each finished
+// before the next. (In a record every location has an exit, so that 6 asks nothing.)
 pub fn lawful<'a>(
+    most: usize,
     people: usize,
     locations: usize,
     doors: usize,
@@ -480,9 +482,9 @@ pub fn lawful<'a>(
     exit: &'a [u8],
     right: &'a [bool],
 ) -> bool
-    ensures { λ r. ⌜ r ≡ lawfulB people locations doors (now (origin .entry)) (now (destination .entry)) (now (exit .entry)) (now (right .entry)) ⌝ }
+    ensures { λ r. ⌜ r ≡ lawfulB most (plan people locations doors (now (origin .entry)) (now (destination .entry)) (now (exit .entry))) (now (right .entry)) ⌝ }
 {
-    if !in_range(people, locations, doors, origin, destination, exit) {
+    if !in_range(most, people, locations, doors, origin, destination, exit) {
         return false;
     }
     if !is_nothing(first_stray(locations, exit)) {

@@ -1,13 +1,13 @@
 -- The runs of specs/Examples.antt, computed from the bytes of the sheets. The steps are computed without the test for 14, which
 -- every record of a run passes. Assumes nothing.
-use Prim.Native.Nat.{ℕ}
+use Prim.Native.Nat.{ℕ, _+_, _-_, _*_}
 use mathlib.Core.Path.{_≡_, refl, sym, ap, subst, _∙_}
 use mathlib.Core.Bool.{true, false}
 use mathlib.Core.List.{List, [], _∷_}
 use lib.ListN.{replicate, set}
 use native.Mathlib.Omega.{arith}
 use Rattle.tables.specs.Below.{orAt, leastBelow, withLocation, locationOf, leastPair, someBelow}
-use Rattle.tables.specs.Tables.{orElse, andAlso, mayBe}
+use Rattle.tables.specs.Tables.{plan, orElse, andAlso, mayBe, mostPeople, mostLocations, mostDoors}
 use Rattle.tables.specs.Tests.{lacksExit, firstNoExit, strays, firstStray, joins, lacksDoor, firstNoDoor, lacksRight, firstNoRight, letsIn, shutOut, firstShutOut}
 use Rattle.tables.specs.Way.{unlessOutside, wayOut, unvisited, wayOf}
 use Rattle.text.specs.Text.{digits, decimal, rowOfNumbers}
@@ -31,7 +31,8 @@ use Rattle.site_sheet.specs.Accepted.{AcceptedRecord}
 use Rattle.verdict.specs.declared.Verdict.the-variants.{Accepted, NoSite}
 use Rattle.site_sheet.specs.Draft.{unmarked, siteRowFits, takeSite, doorRowFits, takeDoor, exitRowFits, takeExit, rightRowFits, takeRight, takeLine}
 use Rattle.site_sheet.specs.Line as site
-use Rattle.site_sheet.specs.Site.{linesIn, readLines, judged, settled, afterHeader, siteOf, refusedSite}
+use Rattle.site_sheet.specs.Site.{linesIn, readLines, judged, settled, afterHeader, siteAt, siteOf, refusedSite}
+use Rattle.grammar.specs.Sizes.{limit}
 use Rattle.site_sheet.proofs.Theorems.{accepted-holds}
 use Rattle.run_text.specs.declared.steps.Heading.{Heading}
 use Rattle.run_text.specs.declared.steps.Heading.the-variants.{Wrong, Rows}
@@ -72,11 +73,12 @@ sound-replies (row ∷ rows) r sh s =
 -- the fresh record of 01's site
 abbrev pub site-of-01 : Record
 site-of-01 =
-    freshRecord 2 3 4 (0 ∷ 1 ∷ 2 ∷ 1 ∷ replicate 60 0) (1 ∷ 2 ∷ 1 ∷ 0 ∷ replicate 60 0) (0 ∷ 0 ∷ 1 ∷ replicate 29 0)
-    (set (set (set (replicate 2048 false) 1 true) 2 true) 33 true)
+    freshRecord
+    (plan 2 3 4 (0 ∷ 1 ∷ 2 ∷ 1 ∷ replicate (mostDoors - 4) 0) (1 ∷ 2 ∷ 1 ∷ 0 ∷ replicate (mostDoors - 4) 0) (0 ∷ 0 ∷ 1 ∷ replicate (mostLocations - 3) 0))
+    (set (set (set (replicate (mostPeople * mostLocations) false) 1 true) 2 true) (mostLocations + 1) true)
 
 sites : (siteOf siteSheet ≡ record { verdict = Accepted; «record» = site-of-01 }) × (siteOf siteHeader ≡ refusedSite NoSite)
-unfolding bareMove shutMove moveOf endOf fieldFrom pushed rowFrom cutRow readRows rowsFrom valueFrom digitsFrom needlessZero numberIn contentAt sameBytes isWord saysWords numberAt orAt leastBelow withLocation locationOf leastPair someBelow orElse andAlso mayBe lacksExit firstNoExit strays firstStray joins lacksDoor firstNoDoor lacksRight firstNoRight letsIn shutOut firstShutOut unlessOutside wayOut unvisited wayOf unmarked siteRowFits takeSite doorRowFits takeDoor exitRowFits takeExit rightRowFits takeRight takeLine site.wordOf site.siteLineAt site.siteHeaderAt linesIn readLines judged settled afterHeader siteOf zeros
+unfolding bareMove shutMove moveOf endOf fieldFrom pushed rowFrom cutRow readRows rowsFrom valueFrom digitsFrom needlessZero numberIn contentAt sameBytes isWord saysWords numberAt orAt leastBelow withLocation locationOf leastPair someBelow orElse andAlso mayBe lacksExit firstNoExit strays firstStray joins lacksDoor firstNoDoor lacksRight firstNoRight letsIn shutOut firstShutOut unlessOutside wayOut unvisited wayOf unmarked siteRowFits takeSite doorRowFits takeDoor exitRowFits takeExit rightRowFits takeRight takeLine site.wordOf site.siteLineAt site.siteHeaderAt linesIn readLines judged settled afterHeader siteAt zeros
 sites = (refl, refl)
 
 stepsOf01 : Steps
@@ -98,8 +100,8 @@ steps = (refl, refl)
 
 -- ---- the steps, run
 
-accepted : AcceptedRecord siteSheet
-accepted = accepted-holds siteSheet (ap (λ (x : SiteRead). x .verdict) (sites .0))
+accepted : AcceptedRecord limit siteSheet
+accepted = accepted-holds limit siteSheet (ap (λ (x : SiteRead). x .verdict) (sites .0))
 
 shaped : Shaped site-of-01
 shaped = subst (λ (x : SiteRead). Shaped (x .«record»)) (sites .0) (accepted .shaped)

@@ -8,20 +8,19 @@ use borrow.Author.Tests.{ne-eqb, lt-ltb, ltb-true, ltb-false}
 use lib.Dec.{ltb}
 use lib.ListN.{length}
 use Rattle.grammar.specs.Cut.{cutRow}
-use Rattle.tables.specs.Tables.{mostPeople}
-use Rattle.record.specs.Doors.{Tables}
+use Rattle.tables.specs.Tables.{Plan, mostPeople}
 use Rattle.record.specs.Run.{lastOf}
 use Rattle.phases.specs.Kinds.{StepRow}
 use Rattle.record.specs.SoundTest.{soundB}
 use Rattle.record.proofs.Tells.{sound-tells}
-use Rattle.record.proofs.Laws.{run-tables}
+use Rattle.record.proofs.Laws.{run-plan}
 use Rattle.site_sheet.specs.declared.SiteRead.{SiteRead}
 use Rattle.verdict.specs.declared.Verdict.{Verdict}
 use Rattle.verdict.specs.declared.Verdict.the-variants.{Accepted, TooLong, BadRow, OutOfRange, Twice, NoSite, NoExit, Stray, NoDoor, NoRight, ShutOut}
 use Rattle.site_sheet.specs.Site.{siteOf, verdictNo}
 use Rattle.grammar.specs.Sizes.{limit}
 use Rattle.site_sheet.specs.Accepted.{AcceptedRecord}
-use Rattle.site_sheet.proofs.Theorems.{accepted-holds}
+use Rattle.site_sheet.proofs.Theorems.{accepted-holds, accepted-people}
 use Rattle.run_text.specs.declared.steps.Heading.{Heading}
 use Rattle.run_text.specs.declared.steps.Heading.the-variants as heading
 use Rattle.run_text.specs.Steps.{headed, headingOf}
@@ -67,17 +66,17 @@ module _ (site steps : List ℕ) {read : SiteRead} {n : ℕ} (is : read ≡ site
   where-refused other = rw (number-is, ne-eqb _ _ other)
 
   module _ (zero : n ≡ 0) where
-    accepted : AcceptedRecord site
-    accepted = accepted-holds site (zero-accepted (siteOf site .verdict) (number-is ∙ zero))
+    accepted : AcceptedRecord limit site
+    accepted = accepted-holds limit site (zero-accepted (siteOf site .verdict) (number-is ∙ zero))
 
     pub fresh-sound : soundB (read .«record») ≡ true
     fresh-sound = rw is (sound-tells (siteOf site .«record») (accepted .shaped) .back (accepted .sound))
 
     fresh-people : read .«record» .people ≤ mostPeople
-    fresh-people = rw is (accepted .sound .tables .in-range .people-to)
+    fresh-people = rw is (accepted-people accepted)
 
     last-people : (rows : List StepRow) → lastOf (read .«record») rows .people ≤ mostPeople
-    last-people rows = rw (ap (λ (t : Tables). t .people) (run-tables (read .«record») rows)) fresh-people
+    last-people rows = rw (ap (λ (plan : Plan). plan .people) (run-plan (read .«record») rows)) fresh-people
 
     pub last-few : (h : Heading) → lastRecord (read .«record») steps h .people ≤ mostPeople
     last-few heading.TooLong = fresh-people

@@ -10,7 +10,7 @@ use lib.ListN.{length, getD, set, replicate, length-append, length-set, length-r
 use lib.Seq.{getD-set-same, getD-set-other, getD-append-seam}
 use lib.Dec.{eqb}
 use borrow.Author.Tests.{eq-eqb, ne-eqb}
-use Rattle.tables.specs.Tables.{orElse, andAlso, mostLocations}
+use Rattle.tables.specs.Tables.{orElse, andAlso, mostPeople, mostLocations, mostDoors}
 use Rattle.tables.specs.Rules.{PlanInRange}
 use Rattle.record.specs.Sound.{ZeroBeyond}
 use Rattle.record.specs.Doors.{zeros}
@@ -19,7 +19,7 @@ use Rattle.tables.proofs.Cases.{same-or-not, below-or-not}
 use Rattle.site_sheet.specs.declared.SiteLine.{SiteLine}
 use Rattle.site_sheet.specs.declared.SiteLine.the-variants.{Site, Door, Exit, Right, Bad}
 use Rattle.site_sheet.specs.declared.Draft.{Draft}
-use Rattle.site_sheet.specs.Draft.{Bounded, countsOf, blankDraft, unmarked, withSite, withDoor, withExit, withRight}
+use Rattle.site_sheet.specs.Draft.{Bounded, countsOf, blankDraft, planIn, unmarked, withSite, withDoor, withExit, withRight}
 use Rattle.site_sheet.specs.Says.{Holds, originsIn, destinationsIn, isExit, hasExit, exitIn, hasRight}
 use Rattle.site_sheet.proofs.Fits.{SiteIn, DoorIn, ExitIn, RightIn}
 use Rattle.site_sheet.proofs.Bounds.{bounded-blank}
@@ -27,17 +27,17 @@ use Rattle.site_sheet.proofs.Said.{people-more, locations-more, origins
 
 -- each list of the tables is as long as its array
 pub record Shape (d : Draft) : Type 0 where
-  pub origins : length (d .origin) ≡ 64
-  pub destinations : length (d .destination) ≡ 64
-  pub exits : length (d .exit) ≡ 32
-  pub given : length (d .given) ≡ 32
-  pub rights : length (d .right) ≡ 2048
+  pub origins : length (d .origin) ≡ mostDoors
+  pub destinations : length (d .destination) ≡ mostDoors
+  pub exits : length (d .exit) ≡ mostLocations
+  pub given : length (d .given) ≡ mostLocations
+  pub rights : length (d .right) ≡ mostPeople * mostLocations
 
 abbrev pub Ranged : Draft → Type 0
-Ranged d = PlanInRange (d .people) (d .locations) (d .doors) (d .origin) (d .destination) (d .exit)
+Ranged d = PlanInRange mostPeople (planIn d)
 
 abbrev pub Zero : Draft → Type 0
-Zero d = ZeroBeyond (d .people) (d .locations) (d .doors) (d .origin) (d .destination) (d .exit) (d .right)
+Zero d = ZeroBeyond (planIn d) (d .right)
 
 pub record Held (before : List SiteLine) (d : Draft) : Type 0 where
   pub holds : Holds before d
@@ -65,31 +65,31 @@ held-blank = record {
     people = refl;
     locations = refl;
     doors = refl;
-    origins = zeros-at 64;
-    destinations = zeros-at 64;
-    exits = zeros-at 32;
-    given = unmarked-at 32;
-    rights = λ q k h. unmarked-at 2048 (q * mostLocations + k);
+    origins = zeros-at mostDoors;
+    destinations = zeros-at mostDoors;
+    exits = zeros-at mostLocations;
+    given = unmarked-at mostLocations;
+    rights = λ q k h. unmarked-at (mostPeople * mostLocations) (q * mostLocations + k);
   };
   shape = record {
-    origins = zeros-long 64;
-    destinations = zeros-long 64;
-    exits = zeros-long 32;
-    given = length-replicate 32 false;
-    rights = length-replicate 2048 false;
+    origins = zeros-long mostDoors;
+    destinations = zeros-long mostDoors;
+    exits = zeros-long mostLocations;
+    given = length-replicate mostLocations false;
+    rights = length-replicate (mostPeople * mostLocations) false;
   };
   bounded = bounded-blank;
   unbegun = λ e. refl;
   begun = λ n. absurd (n refl);
   ranged = λ n. absurd (n refl);
   zero = record {
-    origins = λ k b. zeros-at 64 k;
-    destinations = λ k b. zeros-at 64 k;
-    exits = λ k b. zeros-at 32 k;
-    rights-of = λ q k b w. unmarked-at 2048 (q * mostLocations + k);
-    rights-to = λ q k b w. unmarked-at 2048 (q * mostLocations + k);
-    exit-of-outside = zeros-at 32 0;
-    rights-to-outside = λ q. unmarked-at 2048 (q * mostLocations + 0);
+    origins = λ k b. zeros-at mostDoors k;
+    destinations = λ k b. zeros-at mostDoors k;
+    exits = λ k b. zeros-at mostLocations k;
+    rights-of = λ q k b w. unmarked-at (mostPeople * mostLocations) (q * mostLocations + k);
+    rights-to = λ q k b w. unmarked-at (mostPeople * mostLocations) (q * mostLocations + k);
+    exit-of-outside = zeros-at mostLocations 0;
+    rights-to-outside = λ q. unmarked-at (mostPeople * mostLocations) (q * mostLocations + 0);
   };
 }
 

@@ -9,7 +9,7 @@ use lib.ListN.{length, getD}
 use borrow.Author.Tests.{lt-ltb, le-ltb, ne-eqb}
 use Rattle.tables.specs.Below.{Smallest, SmallestPair, Answers}
 use Rattle.tables.specs.Way.{LeadsOut}
-use Rattle.tables.specs.Rules.{DoorFrom, FirstLocation}
+use Rattle.tables.specs.Rules.{FirstLocation, ExitDoor, ExitRight}
 use Rattle.tables.specs.declared.Found.the-variants as found
 use Rattle.tables.specs.declared.RightFound.the-variants as pair
 use Rattle.tables.specs.Tests.{firstNoExit, firstStray, firstNoDoor, firstNoRight}
@@ -31,11 +31,10 @@ use Rattle.verdict.specs.declared.Verdict.{Verdict}
 use Rattle.verdict.specs.declared.Verdict.the-variants.{Accepted, BadRow, NoExit, Stray, NoDoor, NoRight, ShutOut}
 use Rattle.site_sheet.specs.declared.SiteRead.{SiteRead}
 use Rattle.site_sheet.specs.Line.{siteHeaderAt}
-use Rattle.site_sheet.specs.Draft.{blankDraft}
-use Rattle.site_sheet.specs.Site.{verdictOf, linesIn, readLines, acceptedSite, judged, settled, afterHeader, siteOf}
-use Rattle.grammar.specs.Sizes.{limit}
+use Rattle.site_sheet.specs.Draft.{blankDraft, planIn}
+use Rattle.site_sheet.specs.Site.{verdictOf, linesIn, readLines, acceptedSite, judged, settled, afterHeader, siteAt}
 use Rattle.site_sheet.specs.Says.{HeaderRow, LineInRange, site-range, door-range, exit-range, right-range, NotFirst, door-first, exit-first, right-first, Fine, Wrong, of-form, no-site, out-of-range, said-again}
-use Rattle.site_sheet.specs.Gives.{Headed, FineLines, one-fine, WrongAt, here, further, draftAfter, Tabled, Six, Seven, Eight, ExitRight, Nine, Ten, Obeys, Gives, gives-0, gives-1, gives-header, gives-row, gives-5, gives-6, gives-7, gives-8, gives-9, gives-10}
+use Rattle.site_sheet.specs.Gives.{Headed, FineLines, one-fine, WrongAt, here, further, draftAfter, Tabled, Six, Seven, Eight, Nine, Ten, Obeys, Gives, gives-0, gives-1, gives-header, gives-row, gives-5, gives-6, gives-7, gives-8, gives-9, gives-10}
 use Rattle.site_sheet.proofs.Held.{Held, Ranged, held-blank}
 use Rattle.site_sheet.proofs.Outcome.{fine}
 use Rattle.site_sheet.proofs.Rows.{headerFrom, header-same, header-is, is-header-row}
@@ -104,15 +103,15 @@ all-not-wrong (one-fine x a) (further y w) = all-not-wrong a w
 
 -- ---- the whole sheet
 
-module _ (s : List ℕ) where
-  pub headed-reads : {lines : List SiteLine} → Headed s lines → siteOf s ≡ settled (readLines blankDraft 1 lines)
-  unfolding siteOf afterHeader
+module _ (most : ℕ) (s : List ℕ) where
+  pub headed-reads : {lines : List SiteLine} → Headed most s lines → siteAt most s ≡ settled (readLines blankDraft 1 lines)
+  unfolding siteAt afterHeader
   headed-reads {lines} h =
       let e = row-is-cut s 0 (h .at) in
       let c = cut-is-row s 0 e in
       let q : siteHeaderAt s (cellsOf noCells 0 (h .header)) ≡ true = header-same s (c .row) (c .holds) ∙ ap headerFrom (row-unique (c .there) (h .at) refl .first) ∙ is-header-row (h .header) (h .is) in
       let l : linesIn s (rowsFrom s (length s - length (h .rest))) ≡ lines = text-unique (text-says s (length s - length (h .rest))) (h .says) (c .behind ∙ row-unique (c .there) (h .at) refl .behind) in
-      rw (le-ltb limit (length s) (h .short), e, q, l)
+      rw (le-ltb most (length s) (h .short), e, q, l)
 
   row-given : {lines : List SiteLine} {k : ℕ} {f : Fault} → ReadOf [] lines 1 blankDraft (readLines blankDraft 1 lines) → WrongAt [] lines k f
       → settled (readLines blankDraft 1 lines) .verdict ≡ verdictOf f (k + 1)
@@ -123,7 +122,7 @@ module _ (s : List ℕ) where
       let m : 1 + j ≡ k + 1 = let p = o .place in omega arith in
       rw (e, q, n, m, o .fault)
 
-  tabled-given : {d : Draft} → Tabled s d → siteOf s ≡ judged d
+  tabled-given : {d : Draft} → Tabled most s d → siteAt most s ≡ judged d
   unfolding settled
   tabled-given {d} t = headed-reads (t .headed) ∙ go (read-of (t .lines) [] 1 blankDraft held-blank)
     where
@@ -143,7 +142,7 @@ module _ (s : List ℕ) where
   header-given NoRow e n = refl
   header-given (Broken byte) e n = refl
 
-  module _ {d : Draft} (t : Tabled s d) (r : Ranged d) where
+  module _ {d : Draft} (t : Tabled most s d) (r : Ranged d) where
     ranged-7 : Answers (firstStray (d .locations) (d .exit)) (LeadsOut (d .exit)) (d .locations)
     ranged-7 = let f = r .locations-from in rule-7 (d .locations) (d .exit) (omega arith) (r .locations-to) (r .exits)
 
@@ -163,59 +162,59 @@ module _ (s : List ℕ) where
         e₇ : firstStray (d .locations) (d .exit) ≡ found.Nothing
         e₇ = ranged-7 .none-back seven
 
-        given-8 : {k : ℕ} → Smallest (λ l. 1 ≤ l → DoorFrom (d .doors) (d .origin) (d .destination) l (getD (d .exit) l 0)) (d .locations) k → judged d .verdict ≡ NoDoor k
+        given-8 : {k : ℕ} → Smallest (ExitDoor (planIn d)) (d .locations) k → judged d .verdict ≡ NoDoor k
         unfolding judged
-        given-8 {k} m = rw (e₆, e₇, rule-8 (d .locations) (d .doors) (d .origin) (d .destination) (d .exit) .at-back k m)
+        given-8 {k} m = rw (e₆, e₇, rule-8 (planIn d) .at-back k m)
 
         module _ (eight : Eight d) where
-          e₈ : firstNoDoor (d .locations) (d .doors) (d .origin) (d .destination) (d .exit) ≡ found.Nothing
-          e₈ = rule-8 (d .locations) (d .doors) (d .origin) (d .destination) (d .exit) .none-back eight
+          e₈ : firstNoDoor (planIn d) ≡ found.Nothing
+          e₈ = rule-8 (planIn d) .none-back eight
 
-          given-9 : {p l : ℕ} → SmallestPair (ExitRight d) (d .people) (d .locations) p l → judged d .verdict ≡ NoRight p l
+          given-9 : {p l : ℕ} → SmallestPair (ExitRight (planIn d) (d .right)) (d .people) (d .locations) p l → judged d .verdict ≡ NoRight p l
           unfolding judged
-          given-9 {p} {l} m = rw (e₆, e₇, e₈, rule-9 (d .people) (d .locations) (d .exit) (d .right) .at-back p l m)
+          given-9 {p} {l} m = rw (e₆, e₇, e₈, rule-9 (planIn d) (d .right) .at-back p l m)
 
           module _ (nine : Nine d) where
-            e₉ : firstNoRight (d .people) (d .locations) (d .exit) (d .right) ≡ pair.Nothing
-            e₉ = rule-9 (d .people) (d .locations) (d .exit) (d .right) .none-back nine
+            e₉ : firstNoRight (planIn d) (d .right) ≡ pair.Nothing
+            e₉ = rule-9 (planIn d) (d .right) .none-back nine
 
-            given-10 : {k : ℕ} → Smallest (FirstLocation (d .doors) (d .origin) (d .destination) (d .right)) (d .people) k → judged d .verdict ≡ ShutOut k
+            given-10 : {k : ℕ} → Smallest (FirstLocation (planIn d) (d .right)) (d .people) k → judged d .verdict ≡ ShutOut k
             unfolding judged
-            given-10 {k} m = rw (e₆, e₇, e₈, e₉, rule-10 (d .people) (d .doors) (d .origin) (d .destination) (d .right) .at-back k m)
+            given-10 {k} m = rw (e₆, e₇, e₈, e₉, rule-10 (planIn d) (d .right) .at-back k m)
 
             given-0 : Ten d → judged d ≡ acceptedSite d
             unfolding judged
-            given-0 ten = rw (e₆, e₇, e₈, e₉, rule-10 (d .people) (d .doors) (d .origin) (d .destination) (d .right) .none-back ten)
+            given-0 ten = rw (e₆, e₇, e₈, e₉, rule-10 (planIn d) (d .right) .none-back ten)
 
 -- the tables of a sheet whose rows are right hold what its lines say, and pass 3
-pub tabled-held : {s : List ℕ} {d : Draft} (t : Tabled s d) → Held (t .lines) d
+pub tabled-held : {most : ℕ} {s : List ℕ} {d : Draft} (t : Tabled most s d) → Held (t .lines) d
 tabled-held t = rw (t .tables) (go (read-of (t .lines) [] 1 blankDraft held-blank))
   where
     go : ReadOf [] (t .lines) 1 blankDraft (readLines blankDraft 1 (t .lines)) → Held (t .lines) (draftAfter blankDraft (t .lines))
     go (all a e q h) = h
     go (stopped k f w e n q) = absurd (all-not-wrong (t .fine) w)
 
-tabled-ranged : {s : List ℕ} {d : Draft} → Tabled s d → Ranged d
+tabled-ranged : {most : ℕ} {s : List ℕ} {d : Draft} → Tabled most s d → Ranged d
 tabled-ranged t = tabled-held t .ranged (t .some)
 
 -- what the rules give is what is said
-pub gives-site : {s : List ℕ} {v : Verdict} → Gives s v → siteOf s .verdict ≡ v
-unfolding siteOf settled readLines
-gives-site {s} (gives-0 o) =
-    ap (λ x. x .verdict) (tabled-given s (o .rows) ∙ given-0 s (o .rows) (tabled-ranged (o .rows)) (o .six) (o .seven) (o .eight) (o .nine) (o .ten))
-gives-site {s} (gives-1 l) = rw (lt-ltb limit (length s) l)
-gives-site {s} (gives-header short n) = rw (le-ltb limit (length s) short) (header-given s (cutRow s 0) refl n)
-gives-site {s} (gives-row {lines = lines} h w e) = ap (λ x. x .verdict) (headed-reads s h) ∙ row-given s (read-of lines [] 1 blankDraft held-blank) w ∙ sym e
-gives-site {s} (gives-5 h) = ap (λ x. x .verdict) (headed-reads s h)
-gives-site {s} (gives-6 t m) = ap (λ x. x .verdict) (tabled-given s t) ∙ given-6 s t (tabled-ranged t) m
-gives-site {s} (gives-7 t a m) = ap (λ x. x .verdict) (tabled-given s t) ∙ given-7 s t (tabled-ranged t) a m
-gives-site {s} (gives-8 t a b m) = ap (λ x. x .verdict) (tabled-given s t) ∙ given-8 s t (tabled-ranged t) a b m
-gives-site {s} (gives-9 t a b c m) = ap (λ x. x .verdict) (tabled-given s t) ∙ given-9 s t (tabled-ranged t) a b c m
-gives-site {s} (gives-10 t a b c e m) = ap (λ x. x .verdict) (tabled-given s t) ∙ given-10 s t (tabled-ranged t) a b c e m
+pub gives-site : {most : ℕ} {s : List ℕ} {v : Verdict} → Gives most s v → siteAt most s .verdict ≡ v
+unfolding siteAt settled readLines
+gives-site {most} {s} (gives-0 o) =
+    ap (λ x. x .verdict) (tabled-given most s (o .rows) ∙ given-0 most s (o .rows) (tabled-ranged (o .rows)) (o .six) (o .seven) (o .eight) (o .nine) (o .ten))
+gives-site {most} {s} (gives-1 l) = rw (lt-ltb most (length s) l)
+gives-site {most} {s} (gives-header short n) = rw (le-ltb most (length s) short) (header-given most s (cutRow s 0) refl n)
+gives-site {most} {s} (gives-row {lines = lines} h w e) = ap (λ x. x .verdict) (headed-reads most s h) ∙ row-given most s (read-of lines [] 1 blankDraft held-blank) w ∙ sym e
+gives-site {most} {s} (gives-5 h) = ap (λ x. x .verdict) (headed-reads most s h)
+gives-site {most} {s} (gives-6 t m) = ap (λ x. x .verdict) (tabled-given most s t) ∙ given-6 most s t (tabled-ranged t) m
+gives-site {most} {s} (gives-7 t a m) = ap (λ x. x .verdict) (tabled-given most s t) ∙ given-7 most s t (tabled-ranged t) a m
+gives-site {most} {s} (gives-8 t a b m) = ap (λ x. x .verdict) (tabled-given most s t) ∙ given-8 most s t (tabled-ranged t) a b m
+gives-site {most} {s} (gives-9 t a b c m) = ap (λ x. x .verdict) (tabled-given most s t) ∙ given-9 most s t (tabled-ranged t) a b c m
+gives-site {most} {s} (gives-10 t a b c e m) = ap (λ x. x .verdict) (tabled-given most s t) ∙ given-10 most s t (tabled-ranged t) a b c e m
 
 -- the record of an accepted sheet
-pub accepted-record : {s : List ℕ} (o : Obeys s) → siteOf s ≡ acceptedSite (o .tables)
-accepted-record {s} o = tabled-given s (o .rows) ∙ given-0 s (o .rows) (tabled-ranged (o .rows)) (o .six) (o .seven) (o .eight) (o .nine) (o .ten)
+pub accepted-record : {most : ℕ} {s : List ℕ} (o : Obeys most s) → siteAt most s ≡ acceptedSite (o .tables)
+accepted-record {most} {s} o = tabled-given most s (o .rows) ∙ given-0 most s (o .rows) (tabled-ranged (o .rows)) (o .six) (o .seven) (o .eight) (o .nine) (o .ten)
 
 wrong-refuses : (n : ℕ) {before lines : List SiteLine} {k : ℕ} {f : Fault} → WrongAt before lines k f → Accepted ≡ verdictOf f n → ⊥
 wrong-refuses n (here of-form) e = let z : _≡_ {A = ℕ} 0 1 = cc in omega arith
@@ -225,6 +224,6 @@ wrong-refuses n (here (said-again s r a)) e = let z : _≡_ {A = ℕ} 0 1 = cc i
 wrong-refuses n (further x w) e = wrong-refuses n w e
 
 -- only an obeying sheet is accepted
-pub accepted-obeys : {s : List ℕ} → Gives s Accepted → Obeys s
+pub accepted-obeys : {most : ℕ} {s : List ℕ} → Gives most s Accepted → Obeys most s
 accepted-obeys (gives-0 o) = o
 accepted-obeys (gives-row h w e) = absurd (wrong-refuses _ w e)

@@ -14,8 +14,7 @@ use Rattle.grammar.proofs.Unique.{row-unique}
 use Rattle.grammar.proofs.Exact.{row-is-cut, cut-is-row}
 use Rattle.verdict.specs.declared.Verdict.the-variants.{BadRow}
 use Rattle.site_sheet.specs.Line.{siteHeaderAt}
-use Rattle.site_sheet.specs.Site.{refusedSite, afterHeader, siteOf}
-use Rattle.grammar.specs.Sizes.{limit}
+use Rattle.site_sheet.specs.Site.{refusedSite, afterHeader, siteAt}
 use Rattle.site_sheet.specs.Says.{contents, TextSays, nothing, a-row}
 use Rattle.site_sheet.proofs.Rows.{lineFrom, headerFrom, header-same, header-is, says-from}
 use Rattle.site_sheet.proofs.Only.{headed-reads}
@@ -55,23 +54,23 @@ sheet-says no-row = nothing
 sheet-says (row {r = r} a h) = a-row a (says-from r) (sheet-says h)
 
 -- a sheet whose first row is no header
-bad-header : (s : List ℕ) {r : Row} {rest : List ℕ} → length s ≤ limit → RowAt s r rest → headerFrom r ≡ false → siteOf s ≡ refusedSite (BadRow 0)
-unfolding siteOf afterHeader
-bad-header s {r} short a n =
+bad-header : (most : ℕ) (s : List ℕ) {r : Row} {rest : List ℕ} → length s ≤ most → RowAt s r rest → headerFrom r ≡ false → siteAt most s ≡ refusedSite (BadRow 0)
+unfolding siteAt afterHeader
+bad-header most s {r} short a n =
     let e = row-is-cut s 0 a in
     let c = cut-is-row s 0 e in
     let q : siteHeaderAt s (cellsOf noCells 0 r) ≡ false = header-same s (c .row) (c .holds) ∙ ap headerFrom (row-unique (c .there) a refl .first) ∙ n in
-    rw (le-ltb limit (length s) short, e, q)
+    rw (le-ltb most (length s) short, e, q)
 
-module _ {s t : List ℕ} {r q : Row} {rest last : List ℕ} {rs ss : List Row} (x : length s ≤ limit) (y : length t ≤ limit) (a : RowAt s r rest) (b : RowAt t q last)
+module _ {most : ℕ} {s t : List ℕ} {r q : Row} {rest last : List ℕ} {rs ss : List Row} (x : length s ≤ most) (y : length t ≤ most) (a : RowAt s r rest) (b : RowAt t q last)
     (g : Sheet rest rs) (h : Sheet last ss) (e : contents r ≡ contents q) (f : map contents rs ≡ map contents ss) where
-  by-header : (k : Bool) → headerFrom r ≡ k → siteOf s ≡ siteOf t
+  by-header : (k : Bool) → headerFrom r ≡ k → siteAt most s ≡ siteAt most t
   by-header true k =
-      headed-reads s (record { short = x; header = r; rest = rest; at = a; is = header-is r k; says = sheet-says g })
-      ∙ rw (all-same rs ss f) (sym (headed-reads t (record { short = y; header = q; rest = last; at = b; is = header-is q (sym (headers-same r q e) ∙ k); says = sheet-says h })))
-  by-header false k = bad-header s x a k ∙ sym (bad-header t y b (sym (headers-same r q e) ∙ k))
+      headed-reads most s (record { short = x; header = r; rest = rest; at = a; is = header-is r k; says = sheet-says g })
+      ∙ rw (all-same rs ss f) (sym (headed-reads most t (record { short = y; header = q; rest = last; at = b; is = header-is q (sym (headers-same r q e) ∙ k); says = sheet-says h })))
+  by-header false k = bad-header most s x a k ∙ sym (bad-header most t y b (sym (headers-same r q e) ∙ k))
 
-pub same-answer : {s t : List ℕ} {rs ss : List Row} → length s ≤ limit → length t ≤ limit → Sheet s rs → Sheet t ss → map contents rs ≡ map contents ss → siteOf s ≡ siteOf t
+pub same-answer : {most : ℕ} {s t : List ℕ} {rs ss : List Row} → length s ≤ most → length t ≤ most → Sheet s rs → Sheet t ss → map contents rs ≡ map contents ss → siteAt most s ≡ siteAt most t
 same-answer x y no-row no-row e = refl
 same-answer x y no-row (row b h) e = let z = ap length e in absurd (omega arith)
 same-answer x y (row a g) no-row e = let z = ap length e in absurd (omega arith)

@@ -1,19 +1,22 @@
 -- The theorems of a site sheet: what is said of it, and what the record of an accepted one holds.
 -- Assumes nothing.
 use Prim.Native.Nat.{ℕ, _≤_}
-use mathlib.Core.Path.{_≡_, sym, ap, subst}
+use mathlib.Core.Path.{_≡_, sym, ap, subst, _∙_}
+use native.Mathlib.Omega.{arith}
 use mathlib.Core.Logic.{_↔_}
 use mathlib.Core.List.{List, map}
 use lib.ListN.{length}
+use Rattle.tables.specs.Tables.{mostPeople}
 use Rattle.tables.specs.Rules.{Lawful}
 use Rattle.record.specs.Sound.{Sound}
 use Rattle.record.specs.Doors.{Shaped}
-use Rattle.record.proofs.Fresh.{fresh-sound, fresh-shaped}
+use Rattle.record.specs.declared.record.Record.{Record}
+use Rattle.record.proofs.Fresh.{zeros-long, fresh-sound, fresh-shaped}
 use Rattle.verdict.specs.declared.Verdict.{Verdict}
 use Rattle.verdict.specs.declared.Verdict.the-variants.{Accepted}
 use Rattle.grammar.specs.Grammar.{Row, Sheet}
-use Rattle.site_sheet.specs.Site.{siteOf}
-use Rattle.grammar.specs.Sizes.{limit}
+use Rattle.site_sheet.specs.Draft.{planIn}
+use Rattle.site_sheet.specs.Site.{siteAt}
 use Rattle.site_sheet.specs.Says.{contents}
 use Rattle.site_sheet.specs.Gives.{Obeys, Gives, gives-0}
 use Rattle.site_sheet.specs.Accepted.{AcceptedRecord}
@@ -22,27 +25,26 @@ use Rattle.site_sheet.proofs.Same.{same-answer}
 use Rattle.site_sheet.proofs.Only.{gives-site, accepted-obeys, accepted-record, tabled-held}
 
 -- Each number is given, with its place, exactly when its line of the table says so.
-pub given-exactly : (s : List ℕ) (v : Verdict) → (siteOf s .verdict ≡ v) ↔ Gives s v
-given-exactly s v = ((λ e. subst (Gives s) e (site-gives s)), (λ g. gives-site g))
+pub given-exactly : (most : ℕ) (s : List ℕ) (v : Verdict) → (siteAt most s .verdict ≡ v) ↔ Gives most s v
+given-exactly most s v = ((λ e. subst (Gives most s) e (site-gives most s)), (λ g. gives-site g))
 
 -- A sheet is accepted if and only if it obeys the written rules.
-pub accepted-exactly : (s : List ℕ) → (siteOf s .verdict ≡ Accepted) ↔ Obeys s
-accepted-exactly s = ((λ e. accepted-obeys (subst (Gives s) e (site-gives s))), (λ o. gives-site (gives-0 o)))
+pub accepted-exactly : (most : ℕ) (s : List ℕ) → (siteAt most s .verdict ≡ Accepted) ↔ Obeys most s
+accepted-exactly most s = ((λ e. accepted-obeys (subst (Gives most s) e (site-gives most s))), (λ o. gives-site (gives-0 o)))
 
-obeys-lawful : {s : List ℕ} (o : Obeys s)
-    → Lawful (o .tables .people) (o .tables .locations) (o .tables .doors) (o .tables .origin) (o .tables .destination) (o .tables .exit) (o .tables .right)
+obeys-lawful : {most : ℕ} {s : List ℕ} (o : Obeys most s) → Lawful mostPeople (planIn (o .tables)) (o .tables .right)
 obeys-lawful o = record {
   in-range = tabled-held (o .rows) .ranged (o .rows .some);
   leads-out = o .seven;
-  exit-door = λ l i w. o .eight l w i;
-  exit-right = λ p l a i w. o .nine p a l w i;
+  exit-door = o .eight;
+  exit-right = o .nine;
   first = o .ten;
 }
 
 -- The record of an accepted sheet holds exactly what its rows say; it is fresh, and it is sound.
-pub accepted-holds : (s : List ℕ) → siteOf s .verdict ≡ Accepted → AcceptedRecord s
-accepted-holds s e =
-    let o = accepted-exactly s .0 e in
+pub accepted-holds : (most : ℕ) (s : List ℕ) → siteAt most s .verdict ≡ Accepted → AcceptedRecord most s
+accepted-holds most s e =
+    let o = accepted-exactly most s .0 e in
     let h = tabled-held (o .rows) in
     record {
       lines = o .rows .lines;
@@ -50,11 +52,18 @@ accepted-holds s e =
       tables = o .tables;
       holds = h .holds;
       fresh = ap (λ x. x .«record») (accepted-record o);
-      sound = subst Sound (sym (ap (λ x. x .«record») (accepted-record o))) (fresh-sound _ _ _ _ _ _ _ (obeys-lawful o) (h .zero));
-      shaped = subst Shaped (sym (ap (λ x. x .«record») (accepted-record o))) (fresh-shaped _ _ _ _ _ _ _ (h .shape .origins) (h .shape .destinations) (h .shape .exits) (h .shape .rights));
+      sound = subst Sound (sym (ap (λ x. x .«record») (accepted-record o))) (fresh-sound _ _ (obeys-lawful o) (h .zero));
+      shaped = subst Shaped (sym (ap (λ x. x .«record») (accepted-record o))) (fresh-shaped _ _ (h .shape .origins) (h .shape .destinations) (h .shape .exits));
     }
 
+-- And its people are no more than a site may have.
+pub accepted-people : {most : ℕ} {s : List ℕ} → AcceptedRecord most s → siteAt most s .«record» .people ≤ mostPeople
+accepted-people a =
+    let room = ap (λ (r : Record). length (r .place)) (a .fresh) ∙ zeros-long mostPeople in
+    let people = a .sound .tables .in-range .people-to in
+    omega arith
+
 -- Two sheets with the same rows, quoted or not, with the last CRLF or not, have the same answer.
-pub same-rows-same-answer : {s t : List ℕ} {rs ss : List Row} → length s ≤ limit → length t ≤ limit → Sheet s rs → Sheet t ss
-    → map contents rs ≡ map contents ss → siteOf s ≡ siteOf t
+pub same-rows-same-answer : {most : ℕ} {s t : List ℕ} {rs ss : List Row} → length s ≤ most → length t ≤ most → Sheet s rs → Sheet t ss
+    → map contents rs ≡ map contents ss → siteAt most s ≡ siteAt most t
 same-rows-same-answer a b x y e = same-answer a b x y e

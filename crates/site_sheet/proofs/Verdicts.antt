@@ -31,9 +31,8 @@ use Rattle.verdict.specs.declared.Verdict.the-variants.{NoExit, Stray, NoDoor, 
 use Rattle.site_sheet.specs.declared.SiteRead.{SiteRead}
 use Rattle.site_sheet.specs.declared.Reading.{Reading}
 use Rattle.site_sheet.specs.Line.{siteHeaderAt}
-use Rattle.site_sheet.specs.Draft.{blankDraft, takeLine}
-use Rattle.site_sheet.specs.Site.{soundFault, linesIn, readLines, acceptedSite, unlessFound, unlessPair, judged, settled, afterHeader, siteOf}
-use Rattle.grammar.specs.Sizes.{limit}
+use Rattle.site_sheet.specs.Draft.{blankDraft, planIn, takeLine}
+use Rattle.site_sheet.specs.Site.{soundFault, linesIn, readLines, acceptedSite, unlessFound, unlessPair, judged, settled, afterHeader, siteAt}
 use Rattle.site_sheet.specs.Says.{Fine}
 use Rattle.site_sheet.specs.Gives.{Headed, FineLines, all-fine, one-fine, WrongAt, here, further, draftAfter, Tabled, Six, Seven, Eight, Nine, Gives, gives-0, gives-1, gives-header, gives-row, gives-5, gives-6, gives-7, gives-8, gives-9, gives-10}
 use Rattle.site_sheet.proofs.Held.{Held, Ranged, held-blank}
@@ -70,82 +69,82 @@ read-of (line ∷ lines) before n d h =
 
 -- ---- the rules of the whole sheet
 
-abbrev Given : List ℕ → SiteRead → Type 0
-Given s x = Gives s (x .verdict)
+abbrev Given : ℕ → List ℕ → SiteRead → Type 0
+Given most s x = Gives most s (x .verdict)
 
-module _ (s : List ℕ) (d : Draft) (t : Tabled s d) (r : Ranged d) where
-  ten : Six d → Seven d → Eight d → Nine d → (x : Found) → firstShutOut (d .people) (d .doors) (d .origin) (d .destination) (d .right) ≡ x
-      → Given s (unlessFound x ShutOut (acceptedSite d))
-  ten a b c e (found.At k) q = gives-10 t a b c e (rule-10 (d .people) (d .doors) (d .origin) (d .destination) (d .right) .at-yes k q)
+module _ (most : ℕ) (s : List ℕ) (d : Draft) (t : Tabled most s d) (r : Ranged d) where
+  ten : Six d → Seven d → Eight d → Nine d → (x : Found) → firstShutOut (planIn d) (d .right) ≡ x
+      → Given most s (unlessFound x ShutOut (acceptedSite d))
+  ten a b c e (found.At k) q = gives-10 t a b c e (rule-10 (planIn d) (d .right) .at-yes k q)
   ten a b c e found.Nothing q =
-      gives-0 (record { tables = d; rows = t; six = a; seven = b; eight = c; nine = e; ten = rule-10 (d .people) (d .doors) (d .origin) (d .destination) (d .right) .none-yes q })
+      gives-0 (record { tables = d; rows = t; six = a; seven = b; eight = c; nine = e; ten = rule-10 (planIn d) (d .right) .none-yes q })
 
-  nine : Six d → Seven d → Eight d → (x : RightFound) → firstNoRight (d .people) (d .locations) (d .exit) (d .right) ≡ x
-      → Given s (unlessPair x NoRight (unlessFound (firstShutOut (d .people) (d .doors) (d .origin) (d .destination) (d .right)) ShutOut (acceptedSite d)))
-  nine a b c (pair.At p l) q = gives-9 t a b c (rule-9 (d .people) (d .locations) (d .exit) (d .right) .at-yes p l q)
-  nine a b c pair.Nothing q = ten a b c (rule-9 (d .people) (d .locations) (d .exit) (d .right) .none-yes q) _ refl
+  nine : Six d → Seven d → Eight d → (x : RightFound) → firstNoRight (planIn d) (d .right) ≡ x
+      → Given most s (unlessPair x NoRight (unlessFound (firstShutOut (planIn d) (d .right)) ShutOut (acceptedSite d)))
+  nine a b c (pair.At p l) q = gives-9 t a b c (rule-9 (planIn d) (d .right) .at-yes p l q)
+  nine a b c pair.Nothing q = ten a b c (rule-9 (planIn d) (d .right) .none-yes q) _ refl
 
-  eight : Six d → Seven d → (x : Found) → firstNoDoor (d .locations) (d .doors) (d .origin) (d .destination) (d .exit) ≡ x
-      → Given s (unlessFound x NoDoor (unlessPair (firstNoRight (d .people) (d .locations) (d .exit) (d .right)) NoRight
-      (unlessFound (firstShutOut (d .people) (d .doors) (d .origin) (d .destination) (d .right)) ShutOut (acceptedSite d))))
-  eight a b (found.At k) q = gives-8 t a b (rule-8 (d .locations) (d .doors) (d .origin) (d .destination) (d .exit) .at-yes k q)
-  eight a b found.Nothing q = nine a b (rule-8 (d .locations) (d .doors) (d .origin) (d .destination) (d .exit) .none-yes q) _ refl
+  eight : Six d → Seven d → (x : Found) → firstNoDoor (planIn d) ≡ x
+      → Given most s (unlessFound x NoDoor (unlessPair (firstNoRight (planIn d) (d .right)) NoRight
+      (unlessFound (firstShutOut (planIn d) (d .right)) ShutOut (acceptedSite d))))
+  eight a b (found.At k) q = gives-8 t a b (rule-8 (planIn d) .at-yes k q)
+  eight a b found.Nothing q = nine a b (rule-8 (planIn d) .none-yes q) _ refl
 
   seven-answers : Answers (firstStray (d .locations) (d .exit)) (Rattle.tables.specs.Way.LeadsOut (d .exit)) (d .locations)
   seven-answers = let f = r .locations-from in rule-7 (d .locations) (d .exit) (omega arith) (r .locations-to) (r .exits)
 
   seven : Six d → (x : Found) → firstStray (d .locations) (d .exit) ≡ x
-      → Given s (unlessFound x Stray (unlessFound (firstNoDoor (d .locations) (d .doors) (d .origin) (d .destination) (d .exit)) NoDoor
-      (unlessPair (firstNoRight (d .people) (d .locations) (d .exit) (d .right)) NoRight
-      (unlessFound (firstShutOut (d .people) (d .doors) (d .origin) (d .destination) (d .right)) ShutOut (acceptedSite d)))))
+      → Given most s (unlessFound x Stray (unlessFound (firstNoDoor (planIn d)) NoDoor
+      (unlessPair (firstNoRight (planIn d) (d .right)) NoRight
+      (unlessFound (firstShutOut (planIn d) (d .right)) ShutOut (acceptedSite d)))))
   seven a (found.At k) q = gives-7 t a (seven-answers .at-yes k q)
   seven a found.Nothing q = eight a (seven-answers .none-yes q) _ refl
 
   six : (x : Found) → firstNoExit (d .locations) (d .given) ≡ x
-      → Given s (unlessFound x NoExit (unlessFound (firstStray (d .locations) (d .exit)) Stray (unlessFound (firstNoDoor (d .locations) (d .doors) (d .origin) (d .destination) (d .exit)) NoDoor
-      (unlessPair (firstNoRight (d .people) (d .locations) (d .exit) (d .right)) NoRight
-      (unlessFound (firstShutOut (d .people) (d .doors) (d .origin) (d .destination) (d .right)) ShutOut (acceptedSite d))))))
+      → Given most s (unlessFound x NoExit (unlessFound (firstStray (d .locations) (d .exit)) Stray (unlessFound (firstNoDoor (planIn d)) NoDoor
+      (unlessPair (firstNoRight (planIn d) (d .right)) NoRight
+      (unlessFound (firstShutOut (planIn d) (d .right)) ShutOut (acceptedSite d))))))
   six (found.At k) q = gives-6 t (rule-6 (d .locations) (d .given) .at-yes k q)
   six found.Nothing q = seven (rule-6 (d .locations) (d .given) .none-yes q) _ refl
 
-  judged-gives : Given s (judged d)
+  judged-gives : Given most s (judged d)
   unfolding judged
   judged-gives = six (firstNoExit (d .locations) (d .given)) refl
 
 -- ---- the whole sheet
 
-settled-gives : (s : List ℕ) (lines : List SiteLine) (r : Reading) → Headed s lines → ReadOf [] lines 1 blankDraft r → Given s (settled r)
+settled-gives : (most : ℕ) (s : List ℕ) (lines : List SiteLine) (r : Reading) → Headed most s lines → ReadOf [] lines 1 blankDraft r → Given most s (settled r)
 unfolding settled
-settled-gives s lines r h (all a f e k) =
+settled-gives most s lines r h (all a f e k) =
     let d : Draft = draftAfter blankDraft lines in
     let q : soundFault (r .fault) ≡ true = rw f in
     rw (q, e)
-    (either (Given s) (eqb (d .locations) 0)
-    (λ z. let n = nothing-before lines d k (eqb-true (d .locations) 0 z) in gives-5 (subst (Headed s) n h))
+    (either (Given most s) (eqb (d .locations) 0)
+    (λ z. let n = nothing-before lines d k (eqb-true (d .locations) 0 z) in gives-5 (subst (Headed most s) n h))
     (λ z. let n = some-before lines d k (eqb-false (d .locations) 0 z) in
-    judged-gives s d (record { lines = lines; headed = h; some = n; fine = a; tables = refl }) (k .ranged n)))
-settled-gives s lines r h (stopped k f w e n q) =
+    judged-gives most s d (record { lines = lines; headed = h; some = n; fine = a; tables = refl }) (k .ranged n)))
+settled-gives most s lines r h (stopped k f w e n q) =
     let m : 1 + k ≡ k + 1 = omega arith in
     rw (e, q, n, m) (gives-row h w refl)
 
-module _ (s : List ℕ) (short : length s ≤ limit) where
-  after-gives : (cut : RowCut) → cutRow s 0 ≡ cut → Given s (afterHeader s cut)
+module _ (most : ℕ) (s : List ℕ) (short : length s ≤ most) where
+  after-gives : (cut : RowCut) → cutRow s 0 ≡ cut → Given most s (afterHeader s cut)
   unfolding afterHeader
   after-gives (Cut cells next) e =
       let c = cut-is-row s 0 e in
       let same = header-same s (c .row) (c .holds) in
-      either (Given s) (siteHeaderAt s cells)
+      either (Given most s) (siteHeaderAt s cells)
       (λ y.
-      let h : Headed s (linesIn s (rowsFrom s next)) =
+      let h : Headed most s (linesIn s (rowsFrom s next)) =
       record { short = short; header = c .row; rest = c .rest; at = c .there; is = header-is (c .row) (sym same ∙ y); says = rw (c .behind) at (text-says s next) } in
-      settled-gives s (linesIn s (rowsFrom s next)) _ h (read-of (linesIn s (rowsFrom s next)) [] 1 blankDraft held-blank))
+      settled-gives most s (linesIn s (rowsFrom s next)) _ h (read-of (linesIn s (rowsFrom s next)) [] 1 blankDraft held-blank))
       (λ n. gives-header short (λ r rest a i. clash (is-header-row r i) (ap headerFrom (row-unique a (c .there) refl .first) ∙ sym same ∙ n)))
   after-gives NoRow e = gives-header short (λ r rest a i. no-row-at a (sym (no-row-end s 0 e)))
   after-gives (Broken byte) e = gives-header short (λ r rest a i. broken-none s 0 e r rest a)
 
 -- what is said of a sheet is what the rules give
-pub site-gives : (s : List ℕ) → Gives s (siteOf s .verdict)
-unfolding siteOf
-site-gives s =
-    either (Given s) (ltb limit (length s)) (λ e. gives-1 (ltb-true limit (length s) e))
-    (λ e. after-gives s (ltb-false limit (length s) e) (cutRow s 0) refl)
+pub site-gives : (most : ℕ) (s : List ℕ) → Gives most s (siteAt most s .verdict)
+unfolding siteAt
+site-gives most s =
+    either (Given most s) (ltb most (length s)) (λ e. gives-1 (ltb-true most (length s) e))
+    (λ e. after-gives most s (ltb-false most (length s) e) (cutRow s 0) refl)

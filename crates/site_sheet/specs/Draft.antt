@@ -5,7 +5,7 @@ use mathlib.Core.List.{List}
 use lib.ListN.{getD, set, replicate}
 use lib.Dec.{leb, ltb, eqb}
 use Rattle.record.specs.Doors.{zeros}
-use Rattle.tables.specs.Tables.{andAlso, mostPeople, mostLocations, mostDoors}
+use Rattle.tables.specs.Tables.{Plan, plan, andAlso, mostPeople, mostLocations, mostDoors}
 use Rattle.site_sheet.specs.declared.SiteLine.{SiteLine}
 use Rattle.site_sheet.specs.declared.SiteLine.the-variants.{Site, Door, Exit, Right, Bad}
 use Rattle.site_sheet.specs.declared.Counts.{Counts}
@@ -27,12 +27,16 @@ blankDraft = record {
   people = 0;
   locations = 0;
   doors = 0;
-  origin = zeros 64;
-  destination = zeros 64;
-  exit = zeros 32;
-  given = unmarked 32;
-  right = unmarked 2048;
+  origin = zeros mostDoors;
+  destination = zeros mostDoors;
+  exit = zeros mostLocations;
+  given = unmarked mostLocations;
+  right = unmarked (mostPeople * mostLocations);
 }
+
+-- the plan that the tables hold; `d .right` are the rights
+abbrev pub planIn : Draft → Plan
+planIn d = plan (d .people) (d .locations) (d .doors) (d .origin) (d .destination) (d .exit)
 
 -- the counts are in their ranges
 pub record Bounded (c : Counts) : Type 0 where

@@ -1,27 +1,26 @@
--- When a site sheet is accepted, and for each number exactly when it is given, with its place. 01, "Numbers given back".
+-- When a site sheet is accepted, and for each number exactly when it is given, with its place. 01, "Numbers given back". `most` is how
+-- many bytes a sheet may have.
 use Prim.Native.Nat.{ℕ, _+_, _≤_, _<_}
 use mathlib.Core.Path.{_≡_}
 use mathlib.Core.Bool.{true, false}
 use mathlib.Core.List.{List, [], _∷_, _++_}
 use lib.ListN.{length, getD}
-use Rattle.tables.specs.Tables.{mayBe}
 use Rattle.tables.specs.Below.{Smallest, SmallestPair}
 use Rattle.tables.specs.Way.{LeadsOut}
-use Rattle.tables.specs.Rules.{DoorFrom, FirstLocation}
+use Rattle.tables.specs.Rules.{FirstLocation, ExitDoor, ExitRight}
 use Rattle.grammar.specs.Grammar.{Row, RowAt}
 use Rattle.site_sheet.specs.declared.SiteLine.{SiteLine}
 use Rattle.site_sheet.specs.declared.Draft.{Draft}
 use Rattle.site_sheet.specs.declared.Fault.{Fault}
 use Rattle.verdict.specs.declared.Verdict.{Verdict}
 use Rattle.verdict.specs.declared.Verdict.the-variants.{Accepted, TooLong, BadRow, NoSite, NoExit, Stray, NoDoor, NoRight, ShutOut}
-use Rattle.site_sheet.specs.Draft.{blankDraft, takeLine}
+use Rattle.site_sheet.specs.Draft.{blankDraft, planIn, takeLine}
 use Rattle.site_sheet.specs.Site.{verdictOf}
-use Rattle.grammar.specs.Sizes.{limit}
 use Rattle.site_sheet.specs.Says.{HeaderRow, TextSays, Fine, Wrong}
 
 -- the sheet is short enough, begins with its header, and its further rows say these lines
-pub record Headed (s : List ℕ) (lines : List SiteLine) : Type 0 where
-  pub short : length s ≤ limit
+pub record Headed (most : ℕ) (s : List ℕ) (lines : List SiteLine) : Type 0 where
+  pub short : length s ≤ most
   pub header : Row
   pub rest : List ℕ
   pub at : RowAt s header rest
@@ -45,9 +44,9 @@ draftAfter d [] = d
 draftAfter d (line ∷ lines) = draftAfter (takeLine d line .draft) lines
 
 -- every row of the sheet is right, and these are its tables
-pub record Tabled (s : List ℕ) (d : Draft) : Type 0 where
+pub record Tabled (most : ℕ) (s : List ℕ) (d : Draft) : Type 0 where
   pub lines : List SiteLine
-  pub headed : Headed s lines
+  pub headed : Headed most s lines
   pub some : lines ≡ [] → ⊥
   pub fine : FineLines [] lines
   pub tables : d ≡ draftAfter blankDraft lines
@@ -60,21 +59,18 @@ abbrev pub Seven : Draft → Type 0
 Seven d = (l : ℕ) → l < d .locations → LeadsOut (d .exit) l
 
 abbrev pub Eight : Draft → Type 0
-Eight d = (l : ℕ) → l < d .locations → 1 ≤ l → DoorFrom (d .doors) (d .origin) (d .destination) l (getD (d .exit) l 0)
-
-abbrev pub ExitRight : Draft → ℕ → ℕ → Type 0
-ExitRight d p l = 1 ≤ l → mayBe (d .right) p l ≡ true → mayBe (d .right) p (getD (d .exit) l 0) ≡ true
+Eight d = (l : ℕ) → l < d .locations → ExitDoor (planIn d) l
 
 abbrev pub Nine : Draft → Type 0
-Nine d = (p : ℕ) → p < d .people → (l : ℕ) → l < d .locations → ExitRight d p l
+Nine d = (p : ℕ) → p < d .people → (l : ℕ) → l < d .locations → ExitRight (planIn d) (d .right) p l
 
 abbrev pub Ten : Draft → Type 0
-Ten d = (p : ℕ) → p < d .people → FirstLocation (d .doors) (d .origin) (d .destination) (d .right) p
+Ten d = (p : ℕ) → p < d .people → FirstLocation (planIn d) (d .right) p
 
 -- a site sheet obeys the written rules
-pub record Obeys (s : List ℕ) : Type 0 where
+pub record Obeys (most : ℕ) (s : List ℕ) : Type 0 where
   pub tables : Draft
-  pub rows : Tabled s tables
+  pub rows : Tabled most s tables
   pub six : Six tables
   pub seven : Seven tables
   pub eight : Eight tables
@@ -82,22 +78,22 @@ pub record Obeys (s : List ℕ) : Type 0 where
   pub ten : Ten tables
 
 -- what is said of a sheet
-pub data Gives (s : List ℕ) : Verdict → Type 0 where
+pub data Gives (most : ℕ) (s : List ℕ) : Verdict → Type 0 where
   -- 0: "done"
-  gives-0 : Obeys s → Gives s Accepted
+  gives-0 : Obeys most s → Gives most s Accepted
   -- 1: "sheet over 49,152 bytes"
-  gives-1 : limit < length s → Gives s TooLong
+  gives-1 : most < length s → Gives most s TooLong
   -- 2 at row 0: "wrong header"; "An empty sheet is 2 at row 0"
-  gives-header : length s ≤ limit → ((r : Row) (rest : List ℕ) → RowAt s r rest → HeaderRow r → ⊥) → Gives s (BadRow 0)
+  gives-header : length s ≤ most → ((r : Row) (rest : List ℕ) → RowAt s r rest → HeaderRow r → ⊥) → Gives most s (BadRow 0)
   -- 2, 5, 3, 4 at the first row with which something is wrong
-  gives-row : {lines : List SiteLine} {k : ℕ} {f : Fault} {v : Verdict} → Headed s lines → WrongAt [] lines k f → v ≡ verdictOf f (k + 1) → Gives s v
+  gives-row : {lines : List SiteLine} {k : ℕ} {f : Fault} {v : Verdict} → Headed most s lines → WrongAt [] lines k f → v ≡ verdictOf f (k + 1) → Gives most s v
   -- 5: "a header alone is 5"
-  gives-5 : Headed s [] → Gives s NoSite
+  gives-5 : Headed most s [] → Gives most s NoSite
   -- 6 to 10: "smallest such"
-  gives-6 : {d : Draft} {k : ℕ} → Tabled s d → Smallest (λ l. 1 ≤ l → getD (d .given) l false ≡ true) (d .locations) k → Gives s (NoExit k)
-  gives-7 : {d : Draft} {k : ℕ} → Tabled s d → Six d → Smallest (LeadsOut (d .exit)) (d .locations) k → Gives s (Stray k)
-  gives-8 : {d : Draft} {k : ℕ} → Tabled s d → Six d → Seven d
-      → Smallest (λ l. 1 ≤ l → DoorFrom (d .doors) (d .origin) (d .destination) l (getD (d .exit) l 0)) (d .locations) k → Gives s (NoDoor k)
-  gives-9 : {d : Draft} {p l : ℕ} → Tabled s d → Six d → Seven d → Eight d → SmallestPair (ExitRight d) (d .people) (d .locations) p l → Gives s (NoRight p l)
-  gives-10 : {d : Draft} {k : ℕ} → Tabled s d → Six d → Seven d → Eight d → Nine d
-      → Smallest (FirstLocation (d .doors) (d .origin) (d .destination) (d .right)) (d .people) k → Gives s (ShutOut k)
+  gives-6 : {d : Draft} {k : ℕ} → Tabled most s d → Smallest (λ l. 1 ≤ l → getD (d .given) l false ≡ true) (d .locations) k → Gives most s (NoExit k)
+  gives-7 : {d : Draft} {k : ℕ} → Tabled most s d → Six d → Smallest (LeadsOut (d .exit)) (d .locations) k → Gives most s (Stray k)
+  gives-8 : {d : Draft} {k : ℕ} → Tabled most s d → Six d → Seven d
+      → Smallest (ExitDoor (planIn d)) (d .locations) k → Gives most s (NoDoor k)
+  gives-9 : {d : Draft} {p l : ℕ} → Tabled most s d → Six d → Seven d → Eight d → SmallestPair (ExitRight (planIn d) (d .right)) (d .people) (d .locations) p l → Gives most s (NoRight p l)
+  gives-10 : {d : Draft} {k : ℕ} → Tabled most s d → Six d → Seven d → Eight d → Nine d
+      → Smallest (FirstLocation (planIn d) (d .right)) (d .people) k → Gives most s (ShutOut k)

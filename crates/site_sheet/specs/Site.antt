@@ -10,7 +10,7 @@ use Rattle.tables.specs.declared.RightFound.{RightFound}
 use Rattle.tables.specs.declared.RightFound.the-variants as pair
 use Rattle.tables.specs.Tests.{firstNoExit, firstStray, firstNoDoor, firstNoRight, firstShutOut}
 use Rattle.record.specs.declared.record.Record.{Record}
-use Rattle.record.specs.Doors.{zeros, freshRecord}
+use Rattle.record.specs.Doors.{freshRecord}
 use Rattle.grammar.specs.declared.cut.RowCut.{RowCut}
 use Rattle.grammar.specs.declared.cut.RowCut.the-variants.{Cut, NoRow, Broken}
 use Rattle.grammar.specs.Sizes.{limit}
@@ -26,7 +26,7 @@ use Rattle.verdict.specs.declared.Verdict.the-variants.{Accepted, TooLong, BadR
 use Rattle.site_sheet.specs.declared.SiteRead.{SiteRead}
 use Rattle.site_sheet.specs.declared.Reading.{Reading}
 use Rattle.site_sheet.specs.Line.{siteLineAt, siteHeaderAt}
-use Rattle.site_sheet.specs.Draft.{Taken, blankDraft, unmarked, takeLine}
+use Rattle.site_sheet.specs.Draft.{Taken, blankDraft, planIn, takeLine}
 -- the number and the places of a verdict, passed on to whoever reads of the whole sheet
 pub use Rattle.verdict.specs.Numbers.{verdictNo, firstPlace, secondPlace}
 
@@ -64,7 +64,7 @@ readLines d n (line ∷ lines) = onTaken (takeLine d line) n (readLines (takeLin
 
 -- "A refused site sheet gives no new record.": the blank record has no people, so that it isn't sound
 abbrev pub blankRecord : Record
-blankRecord = freshRecord 0 0 0 (zeros 64) (zeros 64) (zeros 32) (unmarked 2048)
+blankRecord = freshRecord (planIn blankDraft) (blankDraft .right)
 
 abbrev pub refusedSite : Verdict → SiteRead
 refusedSite verdict = record { verdict = verdict; «record» = blankRecord }
@@ -73,7 +73,7 @@ refusedSite verdict = record { verdict = verdict; «record» = blankRecord }
 abbrev pub acceptedSite : Draft → SiteRead
 acceptedSite d = record {
   verdict = Accepted;
-  «record» = freshRecord (d .people) (d .locations) (d .doors) (d .origin) (d .destination) (d .exit) (d .right);
+  «record» = freshRecord (planIn d) (d .right);
 }
 
 abbrev pub unlessFound : Found → (ℕ → Verdict) → SiteRead → SiteRead
@@ -86,13 +86,11 @@ unlessPair pair.Nothing refusal on = on
 
 -- "then 6 to 10 over the whole sheet, each finished before the next"
 abbrev pub judgedBy10 : Draft → SiteRead
-judgedBy10 d =
-    unlessFound (firstShutOut (d .people) (d .doors) (d .origin) (d .destination) (d .right)) ShutOut (acceptedSite d)
+judgedBy10 d = unlessFound (firstShutOut (planIn d) (d .right)) ShutOut (acceptedSite d)
 
 abbrev pub judgedFrom8 : Draft → SiteRead
 judgedFrom8 d =
-    unlessFound (firstNoDoor (d .locations) (d .doors) (d .origin) (d .destination) (d .exit)) NoDoor
-    (unlessPair (firstNoRight (d .people) (d .locations) (d .exit) (d .right)) NoRight (judgedBy10 d))
+    unlessFound (firstNoDoor (planIn d)) NoDoor (unlessPair (firstNoRight (planIn d) (d .right)) NoRight (judgedBy10 d))
 
 unfoldable pub judged : Draft → SiteRead
 judged d =
@@ -111,6 +109,10 @@ afterHeader s (Cut cells next) = cond (siteHeaderAt s cells) (settled (readLines
 afterHeader s NoRow = refusedSite (BadRow 0)
 afterHeader s (Broken byte) = refusedSite (BadRow 0)
 
--- "A sheet: 1 first"
-unfoldable pub siteOf : List ℕ → SiteRead
-siteOf s = cond (ltb limit (length s)) (refusedSite TooLong) (afterHeader s (cutRow s 0))
+-- "A sheet: 1 first": what is answered to a sheet that may have `most` bytes
+unfoldable pub siteAt : ℕ → List ℕ → SiteRead
+siteAt most s = cond (ltb most (length s)) (refusedSite TooLong) (afterHeader s (cutRow s 0))
+
+-- "A sheet is at most 49,152 bytes."
+abbrev pub siteOf : List ℕ → SiteRead
+siteOf s = siteAt limit s

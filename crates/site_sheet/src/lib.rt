@@ -43,7 +43,7 @@ pub struct Counts {
 }
 
 // The counts, each door's origin and destination, each location's exit with a mark where one has been given, and the
-// rights, 32 to a person.
+// rights, MOST_LOCATIONS to a person.
 pub struct Draft {
     pub people: usize,
     pub locations: usize,

@@ -4,7 +4,7 @@ use mathlib.Core.Bool.{Bool, false, not, cond}
 use mathlib.Core.List.{List}
 use lib.ListN.{length, getD}
 use lib.Dec.{eqb, ltb}
-use Rattle.tables.specs.Tables.{mayBe, orElse, andAlso, mostLocations, mostDoors}
+use Rattle.tables.specs.Tables.{Plan, mayBe, orElse, andAlso, mostLocations, mostDoors}
 use Rattle.tables.specs.Below.{allBelow}
 use Rattle.tables.specs.Tests.{lawfulB}
 use Rattle.phases.specs.Phase.{grants}
@@ -44,13 +44,13 @@ unfoldable pub doorsFit : ℕ → ℕ → List ℕ → List ℕ → List ℕ →
 doorsFit people doors phase holder count = allBelow (doorFits people doors phase holder count) mostDoors
 
 -- a grant's door starts where the person is, and the person has a right to its destination
-unfoldable pub grantFits : List ℕ → List ℕ → List Bool → List ℕ → List ℕ → List ℕ → ℕ → Bool
-grantFits origin destination right place phase holder d =
+unfoldable pub grantFits : Plan → List Bool → List ℕ → List ℕ → List ℕ → ℕ → Bool
+grantFits site right place phase holder d =
     orElse (not (grants (getD phase d 0)))
-    (andAlso (eqb (getD place (getD holder d 0) 0) (getD origin d 0)) (mayBe right (getD holder d 0) (getD destination d 0)))
+    (andAlso (eqb (getD place (getD holder d 0) 0) (getD (site .origin) d 0)) (mayBe right (getD holder d 0) (getD (site .destination) d 0)))
 
-unfoldable pub grantsFit : ℕ → List ℕ → List ℕ → List Bool → List ℕ → List ℕ → List ℕ → Bool
-grantsFit doors origin destination right place phase holder = allBelow (grantFits origin destination right place phase holder) doors
+unfoldable pub grantsFit : Plan → List Bool → List ℕ → List ℕ → List ℕ → Bool
+grantsFit site right place phase holder = allBelow (grantFits site right place phase holder) (site .doors)
 
 -- no door before d holds a grant of the same person
 unfoldable pub soleGrant : List ℕ → List ℕ → ℕ → Bool
@@ -60,25 +60,25 @@ unfoldable pub soleGrants : ℕ → List ℕ → List ℕ → Bool
 soleGrants doors phase holder = allBelow (soleGrant phase holder) doors
 
 -- the tables hold 0 beyond the counts, and so do location 0's own exit and rights
-unfoldable pub zeroBeyond : ℕ → ℕ → ℕ → List ℕ → List ℕ → List ℕ → List Bool → Bool
-zeroBeyond people locations doors origin destination exit right =
-    andAlso (zeroFrom doors origin)
-    (andAlso (zeroFrom doors destination)
-    (andAlso (zeroFrom locations exit)
-    (andAlso (eqb (getD exit 0 0) 0)
-    (rightsFit people locations right))))
+unfoldable pub zeroBeyond : Plan → List Bool → Bool
+zeroBeyond site right =
+    andAlso (zeroFrom (site .doors) (site .origin))
+    (andAlso (zeroFrom (site .doors) (site .destination))
+    (andAlso (zeroFrom (site .locations) (site .exit))
+    (andAlso (eqb (getD (site .exit) 0 0) 0)
+    (rightsFit (site .people) (site .locations) right))))
 
 -- the doors' fields fit, and no person has two grants
-unfoldable pub doorsSound : ℕ → ℕ → List ℕ → List ℕ → List Bool → List ℕ → List ℕ → List ℕ → List ℕ → Bool
-doorsSound people doors origin destination right place phase holder count =
-    andAlso (doorsFit people doors phase holder count)
-    (andAlso (grantsFit doors origin destination right place phase holder)
-    (soleGrants doors phase holder))
+unfoldable pub doorsSound : Plan → List Bool → List ℕ → List ℕ → List ℕ → List ℕ → Bool
+doorsSound site right place phase holder count =
+    andAlso (doorsFit (site .people) (site .doors) phase holder count)
+    (andAlso (grantsFit site right place phase holder)
+    (soleGrants (site .doors) phase holder))
 
--- the whole test
-unfoldable pub listsSound : ℕ → ℕ → ℕ → List ℕ → List ℕ → List ℕ → List Bool → List ℕ → List ℕ → List ℕ → List ℕ → Bool
-listsSound people locations doors origin destination exit right place phase holder count =
-    andAlso (lawfulB people locations doors origin destination exit right)
-    (andAlso (zeroBeyond people locations doors origin destination exit right)
-    (andAlso (placesFit people right place)
-    (doorsSound people doors origin destination right place phase holder count)))
+-- the whole test; there is room for as many people as there are places
+unfoldable pub listsSound : Plan → List Bool → List ℕ → List ℕ → List ℕ → List ℕ → Bool
+listsSound site right place phase holder count =
+    andAlso (lawfulB (length place) site right)
+    (andAlso (zeroBeyond site right)
+    (andAlso (placesFit (site .people) right place)
+    (doorsSound site right place phase holder count)))

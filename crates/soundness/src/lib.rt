@@ -1,6 +1,9 @@
 // Are lent lists as a sound record's are? Each sentence of the paper's section is a test over the
 // lists that it speaks of, which are never copied.
 ghost use mathlib.Core.Path.{_≡_};
+ghost use mathlib.Core.List.{List};
+ghost use Prim.Native.Nat.{ℕ};
+ghost use Rattle.tables.specs.Tables.{plan};
 ghost use Rattle.door.specs.Fits.{isFree};
 ghost use Rattle.soundness.specs.SoundTest.{zeroAt, zeroFrom, rightFits, rightsFit, placeFits, placesFit};
 ghost use Rattle.soundness.specs.SoundTest.{doorFits, doorsFit, grantFits, grantsFit, soleGrant, soleGrants};
@@ -155,7 +158,7 @@ fn grant_fits<'a>(
     holder: &'a [u16],
     door: usize,
 ) -> bool
-    ensures { λ r. ⌜ r ≡ grantFits (now (origin .entry)) (now (destination .entry)) (now (right .entry)) (now (place .entry)) (now (phase .entry)) (now (holder .entry)) door ⌝ }
+    ensures { λ r. ⌜ ((people locations doors : ℕ) (exit : List ℕ) → r ≡ grantFits (plan people locations doors (now (origin .entry)) (now (destination .entry)) exit) (now (right .entry)) (now (place .entry)) (now (phase .entry)) (now (holder .entry)) door) ⌝ }
 {
     if !grants(byte_at(phase, door)) {
         return true;
@@ -176,7 +179,7 @@ fn grants_fit<'a>(
     phase: &'a [u8],
     holder: &'a [u16],
 ) -> bool
-    ensures { λ r. ⌜ r ≡ grantsFit doors (now (origin .entry)) (now (destination .entry)) (now (right .entry)) (now (place .entry)) (now (phase .entry)) (now (holder .entry)) ⌝ }
+    ensures { λ r. ⌜ ((people locations : ℕ) (exit : List ℕ) → r ≡ grantsFit (plan people locations doors (now (origin .entry)) (now (destination .entry)) exit) (now (right .entry)) (now (place .entry)) (now (phase .entry)) (now (holder .entry))) ⌝ }
 {
     let mut door = 0;
     while door < doors {
@@ -224,7 +227,7 @@ fn tables_end<'a>(
     exit: &'a [u8],
     right: &'a [bool],
 ) -> bool
-    ensures { λ r. ⌜ r ≡ zeroBeyond people locations doors (now (origin .entry)) (now (destination .entry)) (now (exit .entry)) (now (right .entry)) ⌝ }
+    ensures { λ r. ⌜ r ≡ zeroBeyond (plan people locations doors (now (origin .entry)) (now (destination .entry)) (now (exit .entry))) (now (right .entry)) ⌝ }
 {
     if !zero_from(doors, origin) {
         return false;
@@ -253,7 +256,7 @@ fn doors_sound<'a>(
     holder: &'a [u16],
     count: &'a [u16],
 ) -> bool
-    ensures { λ r. ⌜ r ≡ doorsSound people doors (now (origin .entry)) (now (destination .entry)) (now (right .entry)) (now (place .entry)) (now (phase .entry)) (now (holder .entry)) (now (count .entry)) ⌝ }
+    ensures { λ r. ⌜ ((locations : ℕ) (exit : List ℕ) → r ≡ doorsSound (plan people locations doors (now (origin .entry)) (now (destination .entry)) exit) (now (right .entry)) (now (place .entry)) (now (phase .entry)) (now (holder .entry)) (now (count .entry))) ⌝ }
 {
     if !doors_fit(people, doors, phase, holder, count) {
         return false;
@@ -264,7 +267,7 @@ fn doors_sound<'a>(
     sole_grants(doors, phase, holder)
 }
 
-// Are these lists those of a sound record?
+// Are these lists those of a sound record? There is room for as many people as there are places.
 pub fn lists_sound<'a>(
     people: usize,
     locations: usize,
@@ -278,9 +281,18 @@ pub fn lists_sound<'a>(
     holder: &'a [u16],
     count: &'a [u16],
 ) -> bool
-    ensures { λ r. ⌜ r ≡ listsSound people locations doors (now (origin .entry)) (now (destination .entry)) (now (exit .entry)) (now (right .entry)) (now (place .entry)) (now (phase .entry)) (now (holder .entry)) (now (count .entry)) ⌝ }
+    ensures { λ r. ⌜ r ≡ listsSound (plan people locations doors (now (origin .entry)) (now (destination .entry)) (now (exit .entry))) (now (right .entry)) (now (place .entry)) (now (phase .entry)) (now (holder .entry)) (now (count .entry)) ⌝ }
 {
-    if !rules::lawful(people, locations, doors, origin, destination, exit, right) {
+    if !rules::lawful(
+        place.len(),
+        people,
+        locations,
+        doors,
+        origin,
+        destination,
+        exit,
+        right,
+    ) {
         return false;
     }
     if !tables_end(people, locations, doors, origin, destination, exit, right) {

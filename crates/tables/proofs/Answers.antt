@@ -12,10 +12,10 @@ use mathlib.Core.List.{List}
 use native.Mathlib.Omega.{arith}
 use borrow.Author.Tests.{le-ltb, ltb-false, not-true}
 use lib.ListN.{getD, length}
-use Rattle.tables.specs.Tables.{mayBe, mostLocations}
+use Rattle.tables.specs.Tables.{Plan, mayBe, mostLocations}
 use Rattle.tables.specs.Below.{someBelow, isNothing, Tells, Answers, AnswersPair}
 use Rattle.tables.specs.Way.{LeadsOut, wayOut, unvisited}
-use Rattle.tables.specs.Rules.{PlanInRange, ExitsGiven, DoorFrom, FirstLocation, Lawful}
+use Rattle.tables.specs.Rules.{PlanInRange, ExitsGiven, DoorFrom, FirstLocation, ExitDoor, ExitRight, Lawful}
 use Rattle.tables.specs.Tests.{doorInRange, exitInRange, countsFit, planInRange, lacksExit, firstNoExit, strays, firstStray}
 use Rattle.tables.specs.Tests.{joins, lacksDoor, firstNoDoor, lacksRight, firstNoRight, letsIn, shutOut, firstShutOut, lawfulB}
 use Rattle.tables.proofs.Laws.{some-yes, some-back, tell-lt, tell-le, tell-eq, tell-itself, tell-not, tell-and, tell-and-then, tell-then}
@@ -30,10 +30,9 @@ door-fits-tells : (locations : ℕ) (origin destination : List ℕ) (d : ℕ)
 unfolding doorInRange
 door-fits-tells locations origin destination d = tell-and (tell-lt _ _) (tell-and (tell-lt _ _) (tell-not (tell-eq _ _)))
 
-pub in-range-tells : (people locations doors : ℕ) (origin destination exit : List ℕ)
-    → Tells (planInRange people locations doors origin destination exit) (PlanInRange people locations doors origin destination exit)
+pub in-range-tells : (most : ℕ) (site : Plan) → Tells (planInRange most site) (PlanInRange most site)
 unfolding planInRange countsFit exitInRange
-in-range-tells people locations doors origin destination exit =
+in-range-tells most site =
     tell-as
     (λ t. record {
       people-from = t .0 .0;
@@ -51,8 +50,8 @@ in-range-tells people locations doors origin destination exit =
       ((λ d h. (r .origins d h, (r .destinations d h, r .no-loop d h))), r .exits),
     ))
     (tell-and (tell-and (tell-le _ _) (tell-and (tell-le _ _) (tell-and (tell-le _ _) (tell-and (tell-le _ _) (tell-le _ _)))))
-    (tell-and (tell-all (doorInRange locations origin destination) _ doors (door-fits-tells locations origin destination))
-    (tell-all (exitInRange locations exit) (λ l. getD exit l 0 < locations) locations (λ l. tell-lt _ _))))
+    (tell-and (tell-all (doorInRange (site .locations) (site .origin) (site .destination)) _ (site .doors) (door-fits-tells (site .locations) (site .origin) (site .destination)))
+    (tell-all (exitInRange (site .locations) (site .exit)) (λ l. getD (site .exit) l 0 < site .locations) (site .locations) (λ l. tell-lt _ _))))
 
 -- ---- rule 6
 
@@ -94,75 +93,64 @@ module _ (locations : ℕ) (exit : List ℕ) (some : 1 ≤ locations) (most : lo
 
 -- ---- rule 8
 
-door-tells : (doors : ℕ) (origin destination : List ℕ) (from to : ℕ)
-    → Tells (someBelow (joins origin destination from to) doors) (DoorFrom doors origin destination from to)
+door-tells : (site : Plan) (from to : ℕ) → Tells (someBelow (joins (site .origin) (site .destination) from to) (site .doors)) (DoorFrom site from to)
 unfolding joins
-door-tells doors origin destination from to =
-    let here : (d : ℕ) → Tells (joins origin destination from to d) ((getD origin d 0 ≡ from) × (getD destination d 0 ≡ to)) =
+door-tells site from to =
+    let here : (d : ℕ) → Tells (joins (site .origin) (site .destination) from to d) ((getD (site .origin) d 0 ≡ from) × (getD (site .destination) d 0 ≡ to)) =
     λ d. tell-and (tell-eq _ _) (tell-eq _ _) in
     record {
-      yes = λ e. let s = some-yes (joins origin destination from to) doors e in
+      yes = λ e. let s = some-yes (joins (site .origin) (site .destination) from to) (site .doors) e in
           let t = here (s .0) .yes (s .2) in
           record { door = s .0; exists = s .1; starts = t .0; ends = t .1 };
-      back = λ r. some-back (joins origin destination from to) doors (r .door) (r .exists) (here (r .door) .back (r .starts, r .ends));
+      back = λ r.
+          some-back (joins (site .origin) (site .destination) from to) (site .doors) (r .door) (r .exists) (here (r .door) .back (r .starts, r .ends));
     }
 
-pub rule-8 : (locations doors : ℕ) (origin destination exit : List ℕ)
-    → Answers (firstNoDoor locations doors origin destination exit) (λ l. 1 ≤ l → DoorFrom doors origin destination l (getD exit l 0)) locations
+pub rule-8 : (site : Plan) → Answers (firstNoDoor site) (ExitDoor site) (site .locations)
 unfolding firstNoDoor lacksDoor
-rule-8 locations doors origin destination exit =
-    answers (lacksDoor doors origin destination exit) _ locations
-    (λ l h. tell-then _ (tell-lt 0 l) (tell-not-not (door-tells doors origin destination l (getD exit l 0))))
+rule-8 site =
+    answers (lacksDoor (site .doors) (site .origin) (site .destination) (site .exit)) _ (site .locations)
+    (λ l h. tell-then _ (tell-lt 0 l) (tell-not-not (door-tells site l (getD (site .exit) l 0))))
 
 -- ---- rule 9
 
-pub rule-9 : (people locations : ℕ) (exit : List ℕ) (right : List Bool)
-    → AnswersPair (firstNoRight people locations exit right)
-    (λ p l. 1 ≤ l → mayBe right p l ≡ true → mayBe right p (getD exit l 0) ≡ true) people locations
+pub rule-9 : (site : Plan) (right : List Bool) → AnswersPair (firstNoRight site right) (ExitRight site right) (site .people) (site .locations)
 unfolding firstNoRight lacksRight
-rule-9 people locations exit right =
-    answers-pair (lacksRight exit right) _ people locations
-    (λ p l. tell-then _ (tell-lt 0 l) (tell-then _ (tell-itself (mayBe right p l)) (tell-not-not (tell-itself (mayBe right p (getD exit l 0))))))
+rule-9 site right =
+    answers-pair (lacksRight (site .exit) right) _ (site .people) (site .locations)
+    (λ p l. tell-then _ (tell-lt 0 l) (tell-then _ (tell-itself (mayBe right p l)) (tell-not-not (tell-itself (mayBe right p (getD (site .exit) l 0))))))
 
 -- ---- rule 10
 
-first-tells : (doors : ℕ) (origin destination : List ℕ) (right : List Bool) (p : ℕ)
-    → Tells (someBelow (letsIn origin destination right p) doors) (FirstLocation doors origin destination right p)
+first-tells : (site : Plan) (right : List Bool) (p : ℕ)
+    → Tells (someBelow (letsIn (site .origin) (site .destination) right p) (site .doors)) (FirstLocation site right p)
 unfolding letsIn
-first-tells doors origin destination right p =
-    let here : (d : ℕ) → Tells (letsIn origin destination right p d) ((getD origin d 0 ≡ 0) × (mayBe right p (getD destination d 0) ≡ true)) =
+first-tells site right p =
+    let here : (d : ℕ) → Tells (letsIn (site .origin) (site .destination) right p d) ((getD (site .origin) d 0 ≡ 0) × (mayBe right p (getD (site .destination) d 0) ≡ true)) =
     λ d. tell-and (tell-eq _ _) (tell-itself _) in
     record {
-      yes = λ e. let s = some-yes (letsIn origin destination right p) doors e in
+      yes = λ e. let s = some-yes (letsIn (site .origin) (site .destination) right p) (site .doors) e in
           let t = here (s .0) .yes (s .2) in
-          record { location = getD destination (s .0) 0; may = t .1; door = record { door = s .0; exists = s .1; starts = t .0; ends = refl } };
-      back = λ r. some-back (letsIn origin destination right p) doors (r .door .door) (r .door .exists)
+          record { location = getD (site .destination) (s .0) 0; may = t .1; door = record { door = s .0; exists = s .1; starts = t .0; ends = refl } };
+      back = λ r. some-back (letsIn (site .origin) (site .destination) right p) (site .doors) (r .door .door) (r .door .exists)
           (here (r .door .door) .back (r .door .starts, rw (r .door .ends) (r .may)));
     }
 
-pub rule-10 : (people doors : ℕ) (origin destination : List ℕ) (right : List Bool)
-    → Answers (firstShutOut people doors origin destination right) (FirstLocation doors origin destination right) people
+pub rule-10 : (site : Plan) (right : List Bool) → Answers (firstShutOut site right) (FirstLocation site right) (site .people)
 unfolding firstShutOut shutOut
-rule-10 people doors origin destination right =
-    answers (shutOut doors origin destination right) _ people (λ p h. tell-not-not (first-tells doors origin destination right p))
+rule-10 site right =
+    answers (shutOut (site .doors) (site .origin) (site .destination) right) _ (site .people) (λ p h. tell-not-not (first-tells site right p))
 
 -- ---- the whole test
 
-pub lawful-tells : (people locations doors : ℕ) (origin destination exit : List ℕ) (right : List Bool)
-    → Tells (lawfulB people locations doors origin destination exit right) (Lawful people locations doors origin destination exit right)
+pub lawful-tells : (most : ℕ) (site : Plan) (right : List Bool) → Tells (lawfulB most site right) (Lawful most site right)
 unfolding lawfulB
-lawful-tells people locations doors origin destination exit right =
+lawful-tells most site right =
     tell-as
-    (λ t. record {
-      in-range = t .0;
-      leads-out = t .1 .0;
-      exit-door = λ l low h. t .1 .1 .0 l h low;
-      exit-right = λ p l q low h. t .1 .1 .1 .0 p q l h low;
-      first = t .1 .1 .1 .1;
-    })
-    (λ r. (r .in-range, (r .leads-out, ((λ l h low. r .exit-door l low h), ((λ p q l h low. r .exit-right p l q low h), r .first)))))
-    (tell-and-then (in-range-tells people locations doors origin destination exit) (λ r.
-    tell-and (tell-nothing _ _ locations (rule-7 locations exit (let low = r .locations-from in omega arith) (r .locations-to) (r .exits)))
-    (tell-and (tell-nothing _ _ locations (rule-8 locations doors origin destination exit))
-    (tell-and (tell-no-pair _ _ people locations (rule-9 people locations exit right))
-    (tell-nothing _ _ people (rule-10 people doors origin destination right))))))
+    (λ t. record { in-range = t .0; leads-out = t .1 .0; exit-door = t .1 .1 .0; exit-right = t .1 .1 .1 .0; first = t .1 .1 .1 .1 })
+    (λ r. (r .in-range, (r .leads-out, (r .exit-door, (r .exit-right, r .first)))))
+    (tell-and-then (in-range-tells most site) (λ r.
+    tell-and
+    (tell-nothing _ _ (site .locations) (rule-7 (site .locations) (site .exit) (let low = r .locations-from in omega arith) (r .locations-to) (r .exits)))
+    (tell-and (tell-nothing _ _ (site .locations) (rule-8 site))
+    (tell-and (tell-no-pair _ _ (site .people) (site .locations) (rule-9 site right)) (tell-nothing _ _ (site .people) (rule-10 site right))))))

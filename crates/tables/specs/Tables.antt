@@ -1,5 +1,5 @@
--- How the tables of a site are read. 01, "The record": a table is a list of numbers, `getD table i 0` its entry at i; the
--- rights are one flat list, 32 entries to a person.
+-- The tables of a site and how they are read. 01, "The record": a table is a list of numbers, `getD table i 0` its entry at i;
+-- the rights are one flat list, as many entries to a person as a site may have locations.
 use Prim.Native.Nat.{ℕ, _+_, _*_}
 use mathlib.Core.Bool.{Bool, true, false}
 use mathlib.Core.List.{List}
@@ -15,6 +15,30 @@ mostLocations = 32
 
 abbrev pub mostDoors : ℕ
 mostDoors = 64
+
+-- The plan of a site: its counts, its doors and its exits. The rights stand beside it.
+pub record Plan : Type 0 where
+  -- `site,P,L`: "P people, L locations"
+  pub people : ℕ
+  pub locations : ℕ
+  -- `door,o,t`: "a one-way door from o to t"; "Doors are numbered in row order."
+  pub doors : ℕ
+  pub origin : List ℕ
+  pub destination : List ℕ
+  -- `exit,l,m`: "location l is signed to m"
+  pub exit : List ℕ
+
+-- the plan of these counts and lists, which the code holds one by one
+abbrev pub plan : ℕ → ℕ → ℕ → List ℕ → List ℕ → List ℕ → Plan
+plan people locations doors origin destination exit =
+    record {
+      people = people;
+      locations = locations;
+      doors = doors;
+      origin = origin;
+      destination = destination;
+      exit = exit;
+    }
 
 -- the first test decides, and where it fails the second
 unfoldable pub orElse : Bool → Bool → Bool

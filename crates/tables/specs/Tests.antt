@@ -5,7 +5,7 @@ use mathlib.Core.Bool.{Bool, false, not}
 use mathlib.Core.List.{List}
 use lib.ListN.{getD, length}
 use lib.Dec.{ltb, leb, eqb}
-use Rattle.tables.specs.Tables.{mayBe, andAlso, mostPeople, mostLocations, mostDoors}
+use Rattle.tables.specs.Tables.{Plan, mayBe, andAlso, mostLocations, mostDoors}
 use Rattle.tables.specs.Below.{allBelow, someBelow, leastBelow, leastPair, isNothing, noPair}
 use Rattle.tables.specs.Way.{unvisited, wayOut}
 use Rattle.tables.specs.declared.Found.{Found}
@@ -20,15 +20,16 @@ doorInRange locations origin destination d =
 unfoldable pub exitInRange : ℕ → List ℕ → ℕ → Bool
 exitInRange locations exit l = ltb (getD exit l 0) locations
 
--- 3: the counts are in their ranges
-unfoldable pub countsFit : ℕ → ℕ → ℕ → Bool
-countsFit people locations doors =
-    andAlso (leb 1 people) (andAlso (leb people mostPeople) (andAlso (leb 2 locations) (andAlso (leb locations mostLocations) (leb doors mostDoors))))
+-- 3: the counts are in their ranges, where there is room for `most` people
+unfoldable pub countsFit : ℕ → ℕ → ℕ → ℕ → Bool
+countsFit most people locations doors =
+    andAlso (leb 1 people) (andAlso (leb people most) (andAlso (leb 2 locations) (andAlso (leb locations mostLocations) (leb doors mostDoors))))
 
-unfoldable pub planInRange : ℕ → ℕ → ℕ → List ℕ → List ℕ → List ℕ → Bool
-planInRange people locations doors origin destination exit =
-    andAlso (countsFit people locations doors)
-    (andAlso (allBelow (doorInRange locations origin destination) doors) (allBelow (exitInRange locations exit) locations))
+unfoldable pub planInRange : ℕ → Plan → Bool
+planInRange most site =
+    andAlso (countsFit most (site .people) (site .locations) (site .doors))
+    (andAlso (allBelow (doorInRange (site .locations) (site .origin) (site .destination)) (site .doors))
+    (allBelow (exitInRange (site .locations) (site .exit)) (site .locations)))
 
 -- 6: "a location has no exit"
 unfoldable pub lacksExit : List Bool → ℕ → Bool
@@ -53,15 +54,15 @@ unfoldable pub lacksDoor : ℕ → List ℕ → List ℕ → List ℕ → ℕ �
 lacksDoor doors origin destination exit l =
     andAlso (ltb 0 l) (not (someBelow (joins origin destination l (getD exit l 0)) doors))
 
-unfoldable pub firstNoDoor : ℕ → ℕ → List ℕ → List ℕ → List ℕ → Found
-firstNoDoor locations doors origin destination exit = leastBelow (lacksDoor doors origin destination exit) locations
+unfoldable pub firstNoDoor : Plan → Found
+firstNoDoor site = leastBelow (lacksDoor (site .doors) (site .origin) (site .destination) (site .exit)) (site .locations)
 
 -- 9: "right to l but not to its exit"
 unfoldable pub lacksRight : List ℕ → List Bool → ℕ → ℕ → Bool
 lacksRight exit right p l = andAlso (ltb 0 l) (andAlso (mayBe right p l) (not (mayBe right p (getD exit l 0))))
 
-unfoldable pub firstNoRight : ℕ → ℕ → List ℕ → List Bool → RightFound
-firstNoRight people locations exit right = leastPair (lacksRight exit right) people locations
+unfoldable pub firstNoRight : Plan → List Bool → RightFound
+firstNoRight site right = leastPair (lacksRight (site .exit) right) (site .people) (site .locations)
 
 -- a door by which the person may come in from outside
 unfoldable pub letsIn : List ℕ → List ℕ → List Bool → ℕ → ℕ → Bool
@@ -71,13 +72,13 @@ letsIn origin destination right p d = andAlso (eqb (getD origin d 0) 0) (mayBe r
 unfoldable pub shutOut : ℕ → List ℕ → List ℕ → List Bool → ℕ → Bool
 shutOut doors origin destination right p = not (someBelow (letsIn origin destination right p) doors)
 
-unfoldable pub firstShutOut : ℕ → ℕ → List ℕ → List ℕ → List Bool → Found
-firstShutOut people doors origin destination right = leastBelow (shutOut doors origin destination right) people
+unfoldable pub firstShutOut : Plan → List Bool → Found
+firstShutOut site right = leastBelow (shutOut (site .doors) (site .origin) (site .destination) right) (site .people)
 
 -- "its tables pass 3 and 6 to 10": the whole test of a record's tables, each finished before the next
-unfoldable pub lawfulB : ℕ → ℕ → ℕ → List ℕ → List ℕ → List ℕ → List Bool → Bool
-lawfulB people locations doors origin destination exit right =
-    andAlso (planInRange people locations doors origin destination exit)
-    (andAlso (isNothing (firstStray locations exit))
-    (andAlso (isNothing (firstNoDoor locations doors origin destination exit))
-    (andAlso (noPair (firstNoRight people locations exit right)) (isNothing (firstShutOut people doors origin destination right)))))
+unfoldable pub lawfulB : ℕ → Plan → List Bool → Bool
+lawfulB most site right =
+    andAlso (planInRange most site)
+    (andAlso (isNothing (firstStray (site .locations) (site .exit)))
+    (andAlso (isNothing (firstNoDoor site))
+    (andAlso (noPair (firstNoRight site right)) (isNothing (firstShutOut site right)))))

@@ -29,7 +29,7 @@ unfoldable pub wayOut : ℕ → List ℕ → ℕ → List ℕ
 wayOut zero exit l = []
 wayOut (suc left) exit l = unlessOutside l (getD exit l 0 ∷ wayOut left exit (getD exit l 0))
 
--- The locations still unvisited when one stands in one of them; a site has at most 32, so that a way has at most 31 members.
+-- The locations still unvisited when one stands in one of them; a site has at most so many that a way has at most 31 members.
 unfoldable pub unvisited : ℕ → ℕ
 unvisited locations = min locations mostLocations - 1
 
@@ -41,7 +41,7 @@ pub record TheWay (locations : ℕ) (exit : List ℕ) (l : ℕ) : Type 0 where
   pub is-way : Way exit l (wayOf locations exit l)
   pub only : (way : List ℕ) → Way exit l way → way ≡ wayOf locations exit l
   pub fewer : length (wayOf locations exit l) < locations
-  pub short : length (wayOf locations exit l) ≤ 31
+  pub short : length (wayOf locations exit l) ≤ mostLocations - 1
 
 -- "the way out of a location, written into the front of a lent list with its length told, the rest of the list unaltered";
 -- 13: "list lent for a way out is shorter than the way", and nothing is written.

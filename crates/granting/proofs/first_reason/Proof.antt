@@ -13,7 +13,7 @@ byte-at-requires-2 c κs = search needs
 
 returns : tie.Need-returns
 unfolding firstReason
-returns c = simp (← (c .before .before .byte-at .ensures), ← (c .before .byte-at2 .ensures), ne-eqb _ _ (c .if1 .taken))
+returns c = λ people locations exit. simp (← (c .before .before .byte-at .ensures), ← (c .before .byte-at2 .ensures), ne-eqb _ _ (c .if1 .taken))
 
 byte-at-requires-3 : tie.Need-byte-at-requires-3
 byte-at-requires-3 c κs = search needs
@@ -27,6 +27,7 @@ may-be-requires c κs = search needs
 returns-2 : tie.Need-returns-2
 unfolding firstReason
 returns-2 c =
+    λ people locations exit.
     simp (← (c .before .before .before .before .before .byte-at .ensures), ← (c .before .before .before .before .byte-at2 .ensures), eq-eqb _ _ (c .before .before .before .if1 .left), ← (c .before .before .byte-at3 .ensures), ← (c .before .may-be .ensures), not-true (c .before .may-be .result) (c .if2 .taken))
 
 has-grant-requires : tie.Need-has-grant-requires
@@ -35,11 +36,13 @@ has-grant-requires c κs = search needs
 returns-3 : tie.Need-returns-3
 unfolding firstReason
 returns-3 c =
+    λ people locations exit.
     simp (← (c .before .before .before .before .before .before .before .byte-at .ensures), ← (c .before .before .before .before .before .before .byte-at2 .ensures), eq-eqb _ _ (c .before .before .before .before .before .if1 .left), ← (c .before .before .before .before .byte-at3 .ensures), ← (c .before .before .before .may-be .ensures), not-false (c .before .before .before .may-be .result) (c .before .before .if2 .left), ← (c .before .has-grant .ensures), c .if3 .taken)
 
 returns-4 : tie.Need-returns-4
 unfolding firstReason
 returns-4 c =
+    λ people locations exit.
     simp (← (c .before .before .before .before .before .before .before .byte-at .ensures), ← (c .before .before .before .before .before .before .byte-at2 .ensures), eq-eqb _ _ (c .before .before .before .before .before .if1 .left), ← (c .before .before .before .before .byte-at3 .ensures), ← (c .before .before .before .may-be .ensures), not-false (c .before .before .before .may-be .result) (c .before .before .if2 .left), ← (c .before .has-grant .ensures), c .if3 .left)
 
 pub first-reason-spec : {M : Type 1} → statement M

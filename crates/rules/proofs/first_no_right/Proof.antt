@@ -16,7 +16,7 @@ enum-told c = search needs
 
 returns : tie.Need-returns
 unfolding firstNoRight leastPair locationOf
-returns c = rw (← (c .before .before .first-who-lacks .ensures), c .enum-told .given .1)
+returns c = λ doors origin destination. rw (← (c .before .before .first-who-lacks .ensures), c .enum-told .given .1)
 
 first-lacking-requires : tie.Need-first-lacking-requires
 first-lacking-requires c κs = search needs
@@ -29,11 +29,11 @@ enum-told-2 c = search needs
 
 returns-2 : tie.Need-returns-2
 unfolding firstNoRight leastPair locationOf withLocation
-returns-2 c = rw (← (c .before .before .before .before .before .before .first-who-lacks .ensures), c .before .before .before .before .person .given .1, ← (c .before .before .first-lacking .ensures), c .enum-told2 .given .1)
+returns-2 c = λ doors origin destination. rw (← (c .before .before .before .before .before .before .first-who-lacks .ensures), c .before .before .before .before .person .given .1, ← (c .before .before .first-lacking .ensures), c .enum-told2 .given .1)
 
 returns-3 : tie.Need-returns-3
 unfolding firstNoRight leastPair locationOf withLocation
-returns-3 c = rw (← (c .before .before .before .before .before .before .before .first-who-lacks .ensures), c .before .before .before .before .before .person .given .1, ← (c .before .before .before .first-lacking .ensures), c .before .location .given .1)
+returns-3 c = λ doors origin destination. rw (← (c .before .before .before .before .before .before .before .first-who-lacks .ensures), c .before .before .before .before .before .person .given .1, ← (c .before .before .before .first-lacking .ensures), c .before .location .given .1)
 
 pub first-no-right-spec : {M : Type 1} → statement M
 first-no-right-spec =

@@ -30,7 +30,7 @@ is-nothing-requires-2 c κs = search needs
 
 returns-3 : tie.Need-returns-3
 unfolding lawfulB
-returns-3 c = search chain
+returns-3 c = search (chain, c .before .before .first-no-door .ensures)
 
 first-no-right-requires : tie.Need-first-no-right-requires
 first-no-right-requires c κs = search needs
@@ -40,7 +40,9 @@ no-pair-requires c κs = search needs
 
 returns-4 : tie.Need-returns-4
 unfolding lawfulB
-returns-4 c = search chain
+returns-4 c =
+    let a = c .before .before .before .before .before .before .before .before .before .before .before .before .before .before .before .args in
+    search (chain, c .before .before .before .before .before .first-no-door .ensures (a .people), c .before .before .first-no-right .ensures (a .doors) (a .origin .now) (a .destination .now))
 
 first-shut-out-requires : tie.Need-first-shut-out-requires
 first-shut-out-requires c κs = search needs
@@ -50,7 +52,9 @@ is-nothing-requires-3 c κs = search needs
 
 returns-5 : tie.Need-returns-5
 unfolding lawfulB
-returns-5 c = search chain
+returns-5 c =
+    let a = c .before .before .before .before .before .before .before .before .before .before .before .before .before .before .before .before .before .args in
+    search (chain, c .before .before .before .before .before .before .before .first-no-door .ensures (a .people), c .before .before .before .before .first-no-right .ensures (a .doors) (a .origin .now) (a .destination .now), c .before .first-shut-out .ensures (a .locations) (a .exit .now))
 
 pub lawful-spec : {M : Type 1} → statement M
 lawful-spec =

@@ -6,7 +6,7 @@ use native.Mathlib.Omega.{arith}
 use borrow.Author.Needs.{needs}
 use borrow.Author.Tests.{eq-eqb, ne-eqb, lt-ltb, le-ltb}
 use lib.ListN.{length, List·getD-eq-default}
-use Rattle.tables.specs.Tables.{mayBe, orElse, andAlso}
+use Rattle.tables.specs.Tables.{mayBe, orElse, andAlso, mostLocations}
 use Rattle.rules.proofs.may_be.Statement.{statement}
 use Rattle.rules.proofs.may_be.Tie as tie
 
@@ -22,7 +22,7 @@ returns-3 : tie.Need-returns-3
 unfolding mayBe orElse andAlso
 returns-3 c =
     let a = c .before .before .before .args in
-    let past : length (a .right .now) ≤ a .person * 32 + a .location = omega arith in
+    let past : length (a .right .now) ≤ a .person * mostLocations + a .location = omega arith in
     simp (ne-eqb _ _ (c .before .before .if1 .left), lt-ltb _ _ (c .before .if2 .left), List·getD-eq-default (a .right .now) false past)
 
 mul-at : tie.Need-mul-at

@@ -17,14 +17,14 @@ grants-fit-requires c κs = search needs
 
 returns-2 : tie.Need-returns-2
 unfolding doorsSound
-returns-2 c = search chain depth 9
+returns-2 c = λ locations exit. search (chain, c .before .grants-fit .ensures (c .before .before .before .before .before .before .before .before .before .before .before .args .people) locations exit) depth 9
 
 sole-grants-requires : tie.Need-sole-grants-requires
 sole-grants-requires c κs = search needs
 
 returns-3 : tie.Need-returns-3
 unfolding doorsSound
-returns-3 c = search chain depth 9
+returns-3 c = λ locations exit. search (chain, c .before .before .grants-fit .ensures (c .before .before .before .before .before .before .before .before .before .before .before .before .args .people) locations exit) depth 9
 
 pub doors-sound-spec : {M : Type 1} → statement M
 doors-sound-spec =

@@ -14,7 +14,7 @@ grants-requires c κs = search needs
 
 returns : tie.Need-returns
 unfolding grantFits orElse andAlso
-returns c = simp (← (c .before .before .byte-at .ensures), ← (c .before .grants .ensures), not-true (c .before .grants .result) (c .if1 .taken))
+returns c = λ people locations doors exit. simp (← (c .before .before .byte-at .ensures), ← (c .before .grants .ensures), not-true (c .before .grants .result) (c .if1 .taken))
 
 word-at-requires : tie.Need-word-at-requires
 word-at-requires c κs = search needs
@@ -31,6 +31,7 @@ byte-at-requires-3 c κs = search needs
 returns-2 : tie.Need-returns-2
 unfolding grantFits orElse andAlso
 returns-2 c =
+    λ people locations doors exit.
     simp (← (c .before .before .before .before .before .before .byte-at .ensures), ← (c .before .before .before .before .before .grants .ensures), not-false (c .before .before .before .before .before .grants .result) (c .before .before .before .before .if1 .left), ← (c .before .before .before .word-at .ensures), ← (c .before .before .byte-at2 .ensures), ← (c .before .byte-at3 .ensures), ne-eqb _ _ (c .if2 .taken))
 
 byte-at-requires-4 : tie.Need-byte-at-requires-4
@@ -45,6 +46,7 @@ may-be-requires c κs = search needs
 returns-3 : tie.Need-returns-3
 unfolding grantFits orElse andAlso
 returns-3 c =
+    λ people locations doors exit.
     simp (← (c .before .before .before .before .before .before .before .before .byte-at .ensures), ← (c .before .before .before .before .before .before .before .grants .ensures), not-false (c .before .before .before .before .before .before .before .grants .result) (c .before .before .before .before .before .before .if1 .left), ← (c .before .before .before .before .before .word-at .ensures), ← (c .before .before .before .before .byte-at2 .ensures), ← (c .before .before .before .byte-at3 .ensures), eq-eqb _ _ (c .before .before .if2 .left), ← (c .before .byte-at4 .ensures), c .may-be .ensures)
 
 pub grant-fits-spec : {M : Type 1} → statement M

@@ -31,7 +31,7 @@ doors-sound-requires c κs = search needs
 
 returns-4 : tie.Need-returns-4
 unfolding listsSound
-returns-4 c = search chain depth 9
+returns-4 c = let a = c .before .before .before .before .before .before .before .before .before .before .before .before .before .before .before .args in search (chain, c .doors-sound .ensures (a .locations) (a .exit .now)) depth 9
 
 pub lists-sound-spec : {M : Type 1} → statement M
 lists-sound-spec =

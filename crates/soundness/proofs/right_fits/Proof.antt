@@ -3,7 +3,7 @@ use Prim.Native.Nat.{_%_}
 use mathlib.Core.Bool.{false}
 use borrow.Author.Tests.{lt-ltb, le-ltb}
 use lib.ListN.{List·getD-eq-default}
-use Rattle.tables.specs.Tables.{orElse, andAlso}
+use Rattle.tables.specs.Tables.{orElse, andAlso, mostLocations}
 use Rattle.soundness.specs.SoundTest.{rightFits}
 use borrow.Author.Needs.{needs}
 use native.Mathlib.Omega.{arith}
@@ -29,13 +29,13 @@ returns-4 : tie.Need-returns-4
 unfolding rightFits orElse andAlso
 returns-4 c =
     let none = c .if4 .taken in
-    simp (c .before .before .if2 .left, lt-ltb _ _ (c .before .if3 .left), le-ltb 0 (c .before .before .before .before .before .args .at % 32) (omega arith))
+    simp (c .before .before .if2 .left, lt-ltb _ _ (c .before .if3 .left), le-ltb 0 (c .before .before .before .before .before .args .at % mostLocations) (omega arith))
 
 returns-5 : tie.Need-returns-5
 unfolding rightFits orElse andAlso
 returns-5 c =
     let some = c .if4 .left in
-    simp (c .before .before .if2 .left, lt-ltb _ _ (c .before .if3 .left), lt-ltb 0 (c .before .before .before .before .before .args .at % 32) (omega arith))
+    simp (c .before .before .if2 .left, lt-ltb _ _ (c .before .if3 .left), lt-ltb 0 (c .before .before .before .before .before .args .at % mostLocations) (omega arith))
 
 pub right-fits-spec : {M : Type 1} → statement M
 right-fits-spec =

@@ -49,7 +49,7 @@ returns-3 : tie.Need-returns-3
 returns-3 c =
     let so = c .before .before .before .before .before .before .before .before .among .ensures in
     λ locations exit.
-    judged-done _ _ _ _ _ (c .before .before .before .before .before .before .before .before .before .before .exist .ensures _ refl refl) (c .before .before .before .before .before .before .before .before .before .if1 .left) _ _ so (c .before .before .before .before .before .before .before .before .before .before .before .before .before .before .before .before .before .before .pre .phases _) (c .before .before .before .before .before .before .before .allowed-in .ensures) (c .before .before .before .before .before .before .if2 .left) _ _ (c .before .before .before .person-named .ensures) (c .before .before .before .before .reason-for .ensures) (c .deed-of .result)
+    judged-done _ _ _ _ _ (c .before .before .before .before .before .before .before .before .before .before .exist .ensures _ refl refl) (c .before .before .before .before .before .before .before .before .before .if1 .left) _ _ so (c .before .before .before .before .before .before .before .before .before .before .before .before .before .before .before .before .before .before .pre .phases _) (c .before .before .before .before .before .before .before .allowed-in .ensures) (c .before .before .before .before .before .before .if2 .left) _ _ (c .before .before .before .person-named .ensures) (λ is. c .before .before .before .before .reason-for .ensures is _ locations exit) (c .deed-of .result)
     (c .deed-of .ensures _ _ (sym (ap (λ (x : Door). x .phase) so)) (sym (ap (λ (x : Door). x .holder) so)) (sym (c .before .byte-at .ensures)) ∙ ap (act _ _) (c .before .before .does .ensures))
 
 pub judge-spec : {M : Type 1} → statement M

@@ -15,7 +15,9 @@ refused-requires : tie.Need-refused-requires
 refused-requires c κs = search needs
 
 returns : tie.Need-returns
-returns c = rw (sym (c .before .before .before .before .first-shut-out .ensures) ∙ c .before .before .p .given .1, c .refused .ensures)
+returns c =
+    let d = c .before .before .before .before .before .before .before .before .before .before .before .before .args .t1 in
+    rw (sym (c .before .before .before .before .first-shut-out .ensures (d .locations) (d .exit)) ∙ c .before .before .p .given .1, c .refused .ensures)
 
 enum-told : tie.Need-enum-told
 enum-told c = search needs
@@ -24,7 +26,9 @@ accepted-requires : tie.Need-accepted-requires
 accepted-requires c κs = search needs
 
 returns-2 : tie.Need-returns-2
-returns-2 c = rw (sym (c .before .before .before .first-shut-out .ensures) ∙ c .before .enum-told .given .1, c .accepted .ensures)
+returns-2 c =
+    let d = c .before .before .before .before .before .before .before .before .before .before .before .args .t1 in
+    rw (sym (c .before .before .before .first-shut-out .ensures (d .locations) (d .exit)) ∙ c .before .enum-told .given .1, c .accepted .ensures)
 
 pub judged-by-10-spec : {M : Type 1} → statement M
 judged-by-10-spec =

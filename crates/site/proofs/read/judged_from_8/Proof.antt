@@ -15,7 +15,9 @@ refused-requires : tie.Need-refused-requires
 refused-requires c κs = search needs
 
 returns : tie.Need-returns
-returns c = rw (sym (c .before .before .before .before .first-no-door .ensures) ∙ c .before .before .l .given .1, c .refused .ensures)
+returns c =
+    let d = c .before .before .before .before .before .before .before .before .before .before .before .before .args .t1 in
+    rw (sym (c .before .before .before .before .first-no-door .ensures (d .people)) ∙ c .before .before .l .given .1, c .refused .ensures)
 
 enum-told : tie.Need-enum-told
 enum-told c = search needs
@@ -30,7 +32,9 @@ refused-requires-2 : tie.Need-refused-requires-2
 refused-requires-2 c κs = search needs
 
 returns-2 : tie.Need-returns-2
-returns-2 c = rw (sym (c .before .before .before .before .before .before .before .before .before .before .before .before .first-no-door .ensures) ∙ c .before .before .before .before .before .before .before .before .before .before .enum-told .given .1, sym (c .before .before .before .before .first-no-right .ensures) ∙ c .before .before .person .given .1, c .refused2 .ensures)
+returns-2 c =
+    let d = c .before .before .before .before .before .before .before .before .before .before .before .before .before .before .before .before .before .before .before .before .args .t1 in
+    rw (sym (c .before .before .before .before .before .before .before .before .before .before .before .before .first-no-door .ensures (d .people)) ∙ c .before .before .before .before .before .before .before .before .before .before .enum-told .given .1, sym (c .before .before .before .before .first-no-right .ensures (d .doors) (d .origin) (d .destination)) ∙ c .before .before .person .given .1, c .refused2 .ensures)
 
 enum-told-2 : tie.Need-enum-told-2
 enum-told-2 c = search needs
@@ -39,7 +43,9 @@ judged-by-10-requires : tie.Need-judged-by-10-requires
 judged-by-10-requires c κs = search needs
 
 returns-3 : tie.Need-returns-3
-returns-3 c = rw (sym (c .before .before .before .before .before .before .before .before .before .before .before .first-no-door .ensures) ∙ c .before .before .before .before .before .before .before .before .before .enum-told .given .1, sym (c .before .before .before .first-no-right .ensures) ∙ c .before .enum-told2 .given .1, c .judged-by-10 .ensures)
+returns-3 c =
+    let d = c .before .before .before .before .before .before .before .before .before .before .before .before .before .before .before .before .before .before .before .args .t1 in
+    rw (sym (c .before .before .before .before .before .before .before .before .before .before .before .first-no-door .ensures (d .people)) ∙ c .before .before .before .before .before .before .before .before .before .enum-told .given .1, sym (c .before .before .before .first-no-right .ensures (d .doors) (d .origin) (d .destination)) ∙ c .before .enum-told2 .given .1, c .judged-by-10 .ensures)
 
 pub judged-from-8-spec : {M : Type 1} → statement M
 judged-from-8-spec =

@@ -21,7 +21,7 @@ abbrev μ-loop : tie.MeasureT-loop
 loop-holds : tie.Need-loop-holds Inv-loop μ-loop
 loop-holds c =
     let shaped : Shaped (c .before .before .before .before .before .before .before .before .before .before .args .t1) = search needs in
-    run-start (c .before .before .before .before .before .before .before .before .before .before .pre .0) shaped
+    run-start (c .before .before .before .before .before .before .before .before .before .before .pre .0) shaped (search needs)
 
 word-at-requires : tie.Need-word-at-requires Inv-loop μ-loop
 word-at-requires c κs = search needs
@@ -54,7 +54,7 @@ cast-judge : tie.Need-cast-judge Inv-loop μ-loop
 cast-judge c = search needs
 
 judge-requires : tie.Need-judge-requires Inv-loop μ-loop
-judge-requires c κs = known _ (c .before .before .before .before .before .before .before .before .before .before .before .before .before .before .before .before .loop .inv .sound)
+judge-requires c κs = let run = c .before .before .before .before .before .before .before .before .before .before .before .before .before .before .before .before .loop .inv in known _ (run .room) (run .sound)
 
 carry-out-requires : tie.Need-carry-out-requires Inv-loop μ-loop
 carry-out-requires c κs = search needs

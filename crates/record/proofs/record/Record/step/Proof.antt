@@ -35,7 +35,7 @@ slice-aggregate-judge-4 c = search needs
 judge-requires : tie.Need-judge-requires
 judge-requires c κs =
     let shaped : Shaped (c .before .before .before .before .before .before .before .before .before .before .before .before .before .before .before .before .before .args .t1) = search needs in
-    known _ (sound-tells _ shaped .yes (sym (c .before .before .before .before .before .before .before .before .before .before .before .before .before .before .before .before .is-sound .ensures) ∙ not-false _ (c .before .before .before .before .before .before .before .before .before .before .before .before .before .before .before .if1 .left)))
+    known _ (search needs) (sound-tells _ shaped .yes (sym (c .before .before .before .before .before .before .before .before .before .before .before .before .before .before .before .before .is-sound .ensures) ∙ not-false _ (c .before .before .before .before .before .before .before .before .before .before .before .before .before .before .before .if1 .left)))
 
 carry-out-requires : tie.Need-carry-out-requires
 carry-out-requires c κs = search needs
