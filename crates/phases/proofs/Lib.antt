@@ -1,5 +1,5 @@
 -- The theorems about the steps and the table.
 --     Entries    the table of a hundred entries says what the steps' own rules say
---     Numbers    each step is the one that its number names
+--     Steps      each step is the one that its number names, and none but `card` names a person
 pub mod Entries
-pub mod Numbers
+pub mod Steps

@@ -1,10 +1,11 @@
 -- The loop over the rows of a sheet: each step goes into the three lent lists, in which there is room for it. Assumes nothing.
-use Prim.Native.Nat.{ℕ, _+_, _≤_, _<_}
+use Prim.Native.Nat.{ℕ, _+_, _-_, _≤_, _<_}
 use mathlib.Core.Path.{_≡_, refl, sym, ap, subst, _∙_}
 use mathlib.Core.Bool.{Bool, true, false}
 use mathlib.Core.List.{List, [], _∷_}
 use native.Mathlib.Omega.{arith}
 use native.Mathlib.Numerals.{add-one}
+use borrow.Author.Needs.{needs}
 use borrow.Author.Tests.{leb-true}
 use lib.ListN.{length, set, length-set}
 use lib.Seq.{sets}
@@ -15,7 +16,7 @@ use Rattle.grammar.specs.Rows.{onRow, rowsFrom}
 use Rattle.grammar.specs.declared.cut.Cells.{Cells}
 use Rattle.grammar.specs.declared.cut.RowCut.{RowCut}
 use Rattle.grammar.specs.declared.cut.RowCut.the-variants.{Cut, NoRow, Broken}
-use Rattle.grammar.proofs.Reading.{rows-next}
+use Rattle.grammar.proofs.Reading.{cut-there, rows-next}
 use Rattle.phases.specs.declared.table.Kind.{Kind}
 use Rattle.phases.specs.declared.answer.Answer.the-variants.{Done}
 use Rattle.phases.specs.Kinds.{numberOfKind}
@@ -57,6 +58,7 @@ fill-more {list₀} {all} {list} {rest} {count} {entry} f =
 
 -- the loop over the rows has come to the one at `at`, behind `count` steps
 pub record Decoding (s : List ℕ) (from : ℕ) (kinds₀ doors₀ persons₀ kinds doors persons : List ℕ) (count at : ℕ) : Type 0 where
+  pub few : count ≤ mostIn (length s)
   pub counted : length (stepsFrom s from .rows) ≡ count + length (stepsFrom s at .rows)
   pub ending : stepsFrom s from .whole ≡ stepsFrom s at .whole
   pub kinds-so : Filling kinds₀ (kindsIn (stepsFrom s from)) kinds (kindsIn (stepsFrom s at)) count
@@ -64,81 +66,89 @@ pub record Decoding (s : List ℕ) (from : ℕ) (kinds₀ doors₀ persons₀ ki
   pub persons-so : Filling persons₀ (personsIn (stepsFrom s from)) persons (personsIn (stepsFrom s at)) count
 
 pub decode-start : {s : List ℕ} {from : ℕ} {kinds doors persons : List ℕ} → Decoding s from kinds doors persons kinds doors persons 0 from
-decode-start = record { counted = omega arith; ending = refl; kinds-so = fill-start; doors-so = fill-start; persons-so = fill-start }
+decode-start = record { few = omega arith; counted = omega arith; ending = refl; kinds-so = fill-start; doors-so = fill-start; persons-so = fill-start }
 
 steps-turn : (s : List ℕ) (at : ℕ) {cut : RowCut} → cutRow s at ≡ cut → stepsFrom s at ≡ stepsIn s (onRow cut (rowsFrom s))
 steps-turn s at e = ap (stepsIn s) (rows-next s at ∙ ap (λ c. onRow c (rowsFrom s)) e)
 
+-- what the row there is: `cut` is what the row cutter told, and `line` what the row said
 module _ {s : List ℕ} {from : ℕ} {kinds₀ doors₀ persons₀ kinds doors persons : List ℕ} {count at : ℕ}
-    (so : Decoding s from kinds₀ doors₀ persons₀ kinds doors persons count at) where
-  step-turn : {cells : Cells} {next d p : ℕ} {k : Kind} → cutRow s at ≡ Cut cells next → stepsLineAt s cells ≡ Step k d p
-      → stepsFrom s at ≡ before (Step k d p) (stepsFrom s next)
-  unfolding stepsIn
-  step-turn {cells} {next} e l = steps-turn s at e ∙ ap (λ (x : StepsLine). before x (stepsFrom s next)) l
+    (so : Decoding s from kinds₀ doors₀ persons₀ kinds doors persons count at) (cut : RowCut) (told : cut ≡ cutRow s at) where
+  -- a step
+  module _ {cells : Cells} {next d p : ℕ} {k : Kind} (row : cut ≡ Cut cells next) (line : StepsLine) (said : line ≡ stepsLineAt s cells) (step : line ≡ Step k d p) where
+    turn : stepsFrom s at ≡ before (Step k d p) (stepsFrom s next)
+    unfolding stepsIn
+    turn = steps-turn s at (sym told ∙ row) ∙ ap (λ (x : StepsLine). before x (stepsFrom s next)) (sym said ∙ step)
 
-  one-more : {cells : Cells} {next d p : ℕ} {k : Kind} → cutRow s at ≡ Cut cells next → stepsLineAt s cells ≡ Step k d p
-      → length (stepsFrom s from .rows) ≡ count + 1 + length (stepsFrom s next .rows)
-  one-more {next = next} {d = d} {p = p} {k = k} e l =
-      let one : length (stepsFrom s at .rows) ≡ length (before (Step k d p) (stepsFrom s next) .rows) = ap (λ (x : Steps). length (x .rows)) (step-turn e l) in
-      let all = so .counted in
-      omega arith
+    one-more : length (stepsFrom s from .rows) ≡ count + 1 + length (stepsFrom s next .rows)
+    one-more =
+        let one : length (stepsFrom s at .rows) ≡ length (before (Step k d p) (stepsFrom s next) .rows) = ap (λ (x : Steps). length (x .rows)) turn in
+        let all = so .counted in
+        omega arith
 
-  -- there is room for the step of a row
-  pub decode-room : {cells : Cells} {next d p : ℕ} {k : Kind} → roomIn s kinds₀ doors₀ persons₀ ≡ true → cutRow s at ≡ Cut cells next
-      → stepsLineAt s cells ≡ Step k d p → (count < length kinds) × (count < length doors) × (count < length persons)
-  decode-room room e l =
-      let r = room-is s from kinds₀ doors₀ persons₀ room in
-      let all = one-more e l in
-      let lk = so .kinds-so .long in
-      let ld = so .doors-so .long in
-      let lp = so .persons-so .long in
-      (omega arith, omega arith, omega arith)
+    -- there is room for it
+    module _ (room : roomIn s kinds₀ doors₀ persons₀ ≡ true) where
+      pub kinds-room : count < length kinds
+      kinds-room = let r = room-is s from kinds₀ doors₀ persons₀ room in let all = one-more in let l = so .kinds-so .long in omega arith
 
-  pub decode-more : {cells : Cells} {next d p : ℕ} {k : Kind} → cutRow s at ≡ Cut cells next → stepsLineAt s cells ≡ Step k d p
-      → Decoding s from kinds₀ doors₀ persons₀ (set kinds count (numberOfKind k)) (set doors count d) (set persons count p) (count + 1) next
-  decode-more {cells} {next} {d} {p} {k} e l =
-      let turn = step-turn e l in
-      record {
-        counted = one-more e l;
-        ending = so .ending ∙ ap (λ (x : Steps). x .whole) turn;
-        kinds-so = fill-more (subst (λ (x : Steps). Filling kinds₀ (kindsIn (stepsFrom s from)) kinds (kindsIn x) count) turn (so .kinds-so));
-        doors-so = fill-more (subst (λ (x : Steps). Filling doors₀ (doorsIn (stepsFrom s from)) doors (doorsIn x) count) turn (so .doors-so));
-        persons-so = fill-more (subst (λ (x : Steps). Filling persons₀ (personsIn (stepsFrom s from)) persons (personsIn x) count) turn (so .persons-so));
-      }
+      pub doors-room : count < length doors
+      doors-room = let r = room-is s from kinds₀ doors₀ persons₀ room in let all = one-more in let l = so .doors-so .long in omega arith
 
-  -- what the loop answers behind the last step
-  abbrev pub Ends : Bool → Type 0
-  Ends whole =
-      (record { answer = Done; count = count; whole = whole } ≡ decodedIn s from kinds₀ doors₀ persons₀)
-      × ((kinds ≡ kindsListed s from kinds₀ doors₀ persons₀)
-      × ((doors ≡ doorsListed s from kinds₀ doors₀ persons₀) × (persons ≡ personsListed s from kinds₀ doors₀ persons₀)))
+      pub persons-room : count < length persons
+      persons-room = let r = room-is s from kinds₀ doors₀ persons₀ room in let all = one-more in let l = so .persons-so .long in omega arith
 
-  decode-end : (whole : Bool) → roomIn s kinds₀ doors₀ persons₀ ≡ true → stepsFrom s at ≡ noSteps whole → Ends whole
-  unfolding decodedOf listed
-  decode-end whole room e =
-      let none : length (stepsFrom s at .rows) ≡ 0 = ap (λ (x : Steps). length (x .rows)) e in
-      let all = so .counted in
-      let count-is : length (stepsFrom s from .rows) ≡ count = omega arith in
-      let whole-is : stepsFrom s from .whole ≡ whole = so .ending ∙ ap (λ (x : Steps). x .whole) e in
-      (
-        rw (room, count-is, whole-is),
-        (
-          rw room (subst (λ (x : Steps). sets kinds count (kindsIn x) ≡ sets kinds₀ 0 (kindsIn (stepsFrom s from))) e (so .kinds-so .behind)),
+    pub decode-less : length s - next < length s - at
+    decode-less = let w = cut-there s at (sym told ∙ row) in omega arith
+
+    pub decode-more : (number : ℕ) → number ≡ numberOfKind k
+        → Decoding s from kinds₀ doors₀ persons₀ (set kinds count number) (set doors count d) (set persons count p) (count + 1) next
+    decode-more number is =
+        record {
+          few = let all = one-more in let few = steps-few s from in omega arith;
+          counted = one-more;
+          ending = so .ending ∙ ap (λ (x : Steps). x .whole) turn;
+          kinds-so = rw is (fill-more (subst (λ (x : Steps). Filling kinds₀ (kindsIn (stepsFrom s from)) kinds (kindsIn x) count) turn (so .kinds-so)));
+          doors-so = fill-more (subst (λ (x : Steps). Filling doors₀ (doorsIn (stepsFrom s from)) doors (doorsIn x) count) turn (so .doors-so));
+          persons-so = fill-more (subst (λ (x : Steps). Filling persons₀ (personsIn (stepsFrom s from)) persons (personsIn x) count) turn (so .persons-so));
+        }
+
+  -- or the last step is behind: what is answered then
+  module _ (room : roomIn s kinds₀ doors₀ persons₀ ≡ true) where
+    abbrev pub Ends : Bool → Type 0
+    Ends whole =
+        (record { answer = Done; count = count; whole = whole } ≡ decodedIn s from kinds₀ doors₀ persons₀)
+        × ((kinds ≡ kindsListed s from kinds₀ doors₀ persons₀)
+        × ((doors ≡ doorsListed s from kinds₀ doors₀ persons₀) × (persons ≡ personsListed s from kinds₀ doors₀ persons₀)))
+
+    decode-end : (whole : Bool) → stepsFrom s at ≡ noSteps whole → Ends whole
+    unfolding decodedOf listed
+    decode-end whole e =
+        let none : length (stepsFrom s at .rows) ≡ 0 = ap (λ (x : Steps). length (x .rows)) e in
+        let all = so .counted in
+        let count-is : length (stepsFrom s from .rows) ≡ count = omega arith in
+        let whole-is : stepsFrom s from .whole ≡ whole = so .ending ∙ ap (λ (x : Steps). x .whole) e in (
+          rw (room, count-is, whole-is),
           (
-            rw room (subst (λ (x : Steps). sets doors count (doorsIn x) ≡ sets doors₀ 0 (doorsIn (stepsFrom s from))) e (so .doors-so .behind)),
-            rw room (subst (λ (x : Steps). sets persons count (personsIn x) ≡ sets persons₀ 0 (personsIn (stepsFrom s from))) e (so .persons-so .behind)),
+            rw room (subst (λ (x : Steps). sets kinds count (kindsIn x) ≡ sets kinds₀ 0 (kindsIn (stepsFrom s from))) e (so .kinds-so .behind)),
+            (
+              rw room (subst (λ (x : Steps). sets doors count (doorsIn x) ≡ sets doors₀ 0 (doorsIn (stepsFrom s from))) e (so .doors-so .behind)),
+              rw room (subst (λ (x : Steps). sets persons count (personsIn x) ≡ sets persons₀ 0 (personsIn (stepsFrom s from))) e (so .persons-so .behind)),
+            ),
           ),
-        ),
-      )
+        )
 
-  pub decode-bad : {cells : Cells} {next : ℕ} → roomIn s kinds₀ doors₀ persons₀ ≡ true → cutRow s at ≡ Cut cells next → stepsLineAt s cells ≡ Bad → Ends false
-  unfolding stepsIn
-  decode-bad {cells} {next} room e l = decode-end false room (steps-turn s at e ∙ ap (λ (x : StepsLine). before x (stepsFrom s next)) l)
+    pub decode-bad : {cells : Cells} {next : ℕ} → cut ≡ Cut cells next → (line : StepsLine) → line ≡ stepsLineAt s cells → line ≡ Bad → Ends false
+    unfolding stepsIn
+    decode-bad {cells} {next} row line said bad =
+        decode-end false (steps-turn s at (sym told ∙ row) ∙ ap (λ (x : StepsLine). before x (stepsFrom s next)) (sym said ∙ bad))
 
-  pub decode-over : roomIn s kinds₀ doors₀ persons₀ ≡ true → cutRow s at ≡ NoRow → Ends true
-  unfolding stepsIn
-  decode-over room e = decode-end true room (steps-turn s at e)
+    pub decode-over : cut ≡ NoRow → Ends true
+    unfolding stepsIn
+    decode-over none = decode-end true (steps-turn s at (sym told ∙ none))
 
-  pub decode-broken : {byte : ℕ} → roomIn s kinds₀ doors₀ persons₀ ≡ true → cutRow s at ≡ Broken byte → Ends false
-  unfolding stepsIn
-  decode-broken room e = decode-end false room (steps-turn s at e)
+    pub decode-broken : {byte : ℕ} → cut ≡ Broken byte → Ends false
+    unfolding stepsIn
+    decode-broken broken = decode-end false (steps-turn s at (sym told ∙ broken))
+
+-- the laws of the loop, for `search` at each of its needs
+pub ruleset decoding = (needs, decode-start, kinds-room, doors-room, persons-room, decode-less, decode-more, decode-bad, decode-over, decode-broken)

@@ -1,24 +1,27 @@
 -- What a row says, worked out from its fields' contents: the cells of a row say the same, and the relation `SaysStep` too.
 -- Assumes nothing.
-use Prim.Native.Nat.{ℕ, zero, suc, _<_}
+use Prim.Native.Nat.{ℕ, zero, suc, _^_, _<_}
 use native.Mathlib.Omega.{arith}
-use mathlib.Core.Path.{_≡_, refl, sym, ap, _∙_}
+use mathlib.Core.Path.{_≡_, refl, sym, _∙_}
 use mathlib.Core.Bool.{Bool, true, false, cond}
 use mathlib.Core.List.{List, [], _∷_}
 use lib.ListN.{length, getD}
-use lib.Dec.{ltb, eqb}
+use lib.Dec.{eqb}
 use borrow.Author.Tests.{eq-eqb, eqb-true}
 use Rattle.tables.proofs.Laws.{clash}
+use Rattle.grammar.specs.declared.cut.Cell.{Cell}
 use Rattle.grammar.specs.declared.cut.Cells.{Cells}
 use Rattle.grammar.specs.declared.say.Number.{Number}
 use Rattle.grammar.specs.declared.say.Number.the-variants as number
 use Rattle.grammar.specs.Grammar.{Row, content, fields}
 use Rattle.grammar.specs.Where.{holdsQuote, fieldOf, RowHolds}
-use Rattle.grammar.specs.Say.{ProperNumber, sameBytes, numberIn, numberAt, placeIn}
-use Rattle.grammar.proofs.Saying.{same-true, proper-read, read-proper}
+use Rattle.grammar.specs.Sizes.{width}
+use Rattle.grammar.specs.Say.{sameBytes, isWord, numberIn, numberAt, placeIn}
+use Rattle.grammar.proofs.Saying.{same-true, proper-read, read-proper, number-small}
 use Rattle.grammar.proofs.Contents.{word-same, number-same}
 use Rattle.grammar.proofs.Naming.{NoQuotes, none, more, by-place, named-same}
 use Rattle.phases.specs.declared.table.Kind.{Kind}
+use Rattle.phases.specs.declared.table.Kind.the-variants.{Card, Decide, Green, Red, Walk, Tick, Passed, Lapsed, Dark, Ack, Unknown}
 use Rattle.phases.specs.Kinds.{StepRow, kindOf, namesPerson}
 use Rattle.steps_sheet.specs.declared.StepsLine.{StepsLine}
 use Rattle.steps_sheet.specs.declared.StepsLine.the-variants.{Step, Bad}
@@ -26,6 +29,20 @@ use Rattle.steps_sheet.specs.Words.{cardWord, decideWord, greenWord, red
 use Rattle.steps_sheet.specs.Words.{StepWord, card, decide, green, red, walk, tick, passed, lapsed, dark, ack}
 use Rattle.steps_sheet.specs.Says.{PersonSaid, a-person, nobody, SaysStep, BadForm}
 use Rattle.steps_sheet.specs.Steps.{kindAt, personAt, isStep, stepsLineOf, stepsLineAt}
+
+-- every kind but the unknown is a step
+pub others-are-steps : (k : Kind) → (k ≡ Unknown → ⊥) → isStep k ≡ true
+others-are-steps Card ne = refl
+others-are-steps Decide ne = refl
+others-are-steps Green ne = refl
+others-are-steps Red ne = refl
+others-are-steps Walk ne = refl
+others-are-steps Tick ne = refl
+others-are-steps Passed ne = refl
+others-are-steps Lapsed ne = refl
+others-are-steps Dark ne = refl
+others-are-steps Ack ne = refl
+others-are-steps Unknown ne = absurd (ne refl)
 
 -- ---- by contents
 
@@ -174,3 +191,13 @@ module _ (r : Row) where
 
   pub line-bad : lineFrom r ≡ Bad → BadForm r
   line-bad e step h = bad-step (sym e ∙ says-line h)
+
+-- a person that is told is a small number, as every number is
+pub person-small : (s : List ℕ) (kind : Kind) (cell : Cell) {n : ℕ} → personAt s kind cell ≡ number.Is n → n < 10 ^ width
+unfolding personAt
+person-small s kind cell {n} e = go (namesPerson kind) refl (isWord s cell []) refl
+  where
+    go : (q : Bool) → namesPerson kind ≡ q → (w : Bool) → isWord s cell [] ≡ w → n < 10 ^ width
+    go true q w v = number-small s cell (rw q at e)
+    go false q true v = let z : number.Is 0 ≡ number.Is n = rw (q, v) at e in let y : 0 ≡ n = cc in omega arith
+    go false q false v = none-is (rw (q, v) at e)

@@ -21,12 +21,13 @@ mostIn n = (n + 2) / 8
 abbrev pub mostSteps : ℕ
 mostSteps = mostIn limit
 
--- each lent list is long enough for every sheet of so many bytes
+-- each of three lists has room for so many steps
 unfoldable pub roomFor : ℕ → ℕ → ℕ → ℕ → Bool
-roomFor bytes kinds doors persons = andAlso (leb (mostIn bytes) kinds) (andAlso (leb (mostIn bytes) doors) (leb (mostIn bytes) persons))
+roomFor most kinds doors persons = andAlso (leb most kinds) (andAlso (leb most doors) (leb most persons))
 
+-- and for those of every sheet as long as this
 abbrev pub roomIn : List ℕ → List ℕ → List ℕ → List ℕ → Bool
-roomIn s kinds doors persons = roomFor (length s) (length kinds) (length doors) (length persons)
+roomIn s kinds doors persons = roomFor (mostIn (length s)) (length kinds) (length doors) (length persons)
 
 -- the steps as three lists of numbers
 abbrev pub kindsIn : Steps → List ℕ
