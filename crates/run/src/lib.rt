@@ -1,9 +1,7 @@
 // What the two programs print: the two sheets go in, the whole text comes out, in a lent list.
 //
-// `steps` reads a steps sheet into lists of numbers, up to the first row of bad form; `serve` has them run on the record
-// of the site; `print` writes numbers as text, and `text` puts the two texts together. The definitions are in specs/, in
-// the words of paper 01, "Program and one whole run".
+// `serve` has the steps of a sheet run on the record of the site; `print` writes numbers as text, and `text` puts the two texts
+// together. The definitions, and the theorems of them, are those of crate `run_text`.
 mod print;
 mod serve;
-pub mod steps;
 pub mod text;

@@ -7,12 +7,13 @@ ghost use lib.Seq.{sets};
 ghost use Rattle.record.specs.SoundTest.{soundB};
 ghost use Rattle.record.specs.Run.{toldOf, answerTold, phaseTold, reasonTold};
 ghost use Rattle.grammar.specs.Sizes.{limit};
-ghost use Rattle.run_text.specs.Steps.{stepsFrom, rowsIn, mostSteps};
+ghost use Rattle.steps_sheet.specs.Steps.{stepsFrom};
+ghost use Rattle.steps_sheet.specs.Lent.{mostSteps};
 ghost use Rattle.run_text.specs.Printed.{servedOf};
-use crate::steps::MOST_STEPS;
-use crate::steps::decode;
 use record::record::Record;
 use run_text::serve::Served;
+use steps::MOST_STEPS;
+use steps::decode;
 
 // Runs the steps of the rows from a position on.
 pub(crate) fn serve<'a>(
@@ -28,9 +29,9 @@ pub(crate) fn serve<'a>(
     requires { ⌜ (mostSteps ≤ length (now answers)) × (mostSteps ≤ length (now phases)) × (mostSteps ≤ length (now reasons)) ⌝ }
     ensures served { λ r. ⌜ r ≡ servedOf fresh (stepsFrom (now (s .entry)) from) ⌝ }
     ensures few { λ r. ⌜ r .count ≤ mostSteps ⌝ }
-    ensures answers { λ _. ⌜ now (answers .exit) ≡ sets (now (answers .entry)) 0 (toldOf answerTold fresh (rowsIn (stepsFrom (now (s .entry)) from))) ⌝ }
-    ensures phases { λ _. ⌜ now (phases .exit) ≡ sets (now (phases .entry)) 0 (toldOf phaseTold fresh (rowsIn (stepsFrom (now (s .entry)) from))) ⌝ }
-    ensures reasons { λ _. ⌜ now (reasons .exit) ≡ sets (now (reasons .entry)) 0 (toldOf reasonTold fresh (rowsIn (stepsFrom (now (s .entry)) from))) ⌝ }
+    ensures answers { λ _. ⌜ now (answers .exit) ≡ sets (now (answers .entry)) 0 (toldOf answerTold fresh (stepsFrom (now (s .entry)) from .rows)) ⌝ }
+    ensures phases { λ _. ⌜ now (phases .exit) ≡ sets (now (phases .entry)) 0 (toldOf phaseTold fresh (stepsFrom (now (s .entry)) from .rows)) ⌝ }
+    ensures reasons { λ _. ⌜ now (reasons .exit) ≡ sets (now (reasons .entry)) 0 (toldOf reasonTold fresh (stepsFrom (now (s .entry)) from .rows)) ⌝ }
 {
     let mut kinds = [0u8; MOST_STEPS];
     let mut doors = [0u16; MOST_STEPS];

@@ -9,19 +9,20 @@ ghost use Rattle.tables.specs.Tables.{mostPeople};
 ghost use Rattle.record.specs.SoundTest.{soundB};
 ghost use Rattle.record.specs.Run.{lastOf};
 ghost use Rattle.grammar.specs.Sizes.{limit};
-ghost use Rattle.run_text.specs.Steps.{headingOf, stepsFrom, rowsIn, mostSteps};
+ghost use Rattle.steps_sheet.specs.Steps.{headingOf, stepsFrom};
+ghost use Rattle.steps_sheet.specs.Lent.{mostSteps};
 ghost use Rattle.run_text.specs.Printed.{answerRows, runText, aloneText, ranText, stepsText, panelText};
 ghost use Rattle.run_text.specs.Printed.{placesText, recordText, lastRecord, whereText, printedOf, written};
 use crate::print::put_bytes;
 use crate::print::put_four;
 use crate::print::put_pair;
 use crate::serve::serve;
-use crate::steps::MOST_STEPS;
-use crate::steps::heading_of;
 use record::record::Record;
-use run_text::steps::Heading;
 use run_text::text::Printed;
 use site::read::read_site;
+use steps::MOST_STEPS;
+use steps::heading_of;
+use steps_sheet::Heading;
 
 // The numbers of a long sheet and of a row of bad form or a wrong header.
 const TOO_LONG: u8 = 1;
@@ -219,7 +220,7 @@ fn print_record(r: Record, out: &mut [u8]) -> Printed
 fn record_after(fresh: Record, s: &[u8], from: usize) -> Record
     requires { ⌜ soundB fresh ≡ true ⌝ }
     requires { ⌜ length (now s) ≤ limit ⌝ }
-    ensures { λ r. ⌜ r ≡ lastOf fresh (rowsIn (stepsFrom (now (s .entry)) from)) ⌝ }
+    ensures { λ r. ⌜ r ≡ lastOf fresh (stepsFrom (now (s .entry)) from .rows) ⌝ }
 {
     let mut answers = [0u8; MOST_STEPS];
     let mut phases = [0u8; MOST_STEPS];

@@ -4,5 +4,4 @@
 // The definitions are in specs/, in the words of paper 01, "Program and one whole run". The types are those that the crate `run`
 // answers with.
 pub mod serve;
-pub mod steps;
 pub mod text;

@@ -4,7 +4,7 @@ use Prim.Native.Nat.{ℕ, _+_, _-_, _≤_}
 use native.Mathlib.Omega.{arith}
 use mathlib.Core.Path.{_≡_, refl, sym, ap, subst, _∙_}
 use mathlib.Core.Logic.{_↔_}
-use mathlib.Core.Bool.{Bool}
+use mathlib.Core.Bool.{Bool, true, false}
 use mathlib.Core.List.{List}
 use lib.ListN.{length, drop}
 use Rattle.grammar.specs.declared.cut.Cells.{Cells}
@@ -13,11 +13,12 @@ use Rattle.grammar.specs.Where.{RowHolds}
 use Rattle.grammar.proofs.Exact.{rest-is-end, rest-shorter}
 use Rattle.phases.specs.Kinds.{StepRow}
 use Rattle.steps_sheet.specs.declared.StepsLine.the-variants.{Step, Bad}
+use Rattle.steps_sheet.specs.declared.Decoded.{Decoded}
 use Rattle.steps_sheet.specs.declared.Heading.{Heading}
 use Rattle.steps_sheet.specs.declared.Heading.the-variants.{Rows}
 use Rattle.steps_sheet.specs.Says.{Steps, SaysStep, BadForm, TextSays, HeadingSays, rows-at, SheetSays}
 use Rattle.steps_sheet.specs.Steps.{stepsLineAt, headingAt, stepsFrom, SheetReads}
-use Rattle.steps_sheet.specs.Lent.{mostIn}
+use Rattle.steps_sheet.specs.Lent.{mostIn, decodedOf}
 use Rattle.steps_sheet.proofs.Rows.{line-same, says-line, line-says, bad-line, line-bad}
 use Rattle.steps_sheet.proofs.Text as text
 use Rattle.steps_sheet.proofs.Few as few
@@ -49,6 +50,13 @@ heading-exactly most s h = (
   (λ x. text.heading-unique most s (text.heading-says most s) x),
 )
 
+-- A sheet with a header behind which rows begin isn't too long.
+pub headed-short : (most : ℕ) (s : List ℕ) {from : ℕ} → headingAt most s ≡ Rows from → length s ≤ most
+headed-short most s {from} e = go (heading-exactly most s (Rows from) .0 e)
+  where
+    go : HeadingSays most s (Rows from) → length s ≤ most
+    go (rows-at short a is at) = short
+
 behind-header : (s : List ℕ) {r : Row} {rest : List ℕ} (from : ℕ) → RowAt s r rest → from + length rest ≡ length s → drop from s ≡ rest
 behind-header s {rest = rest} from a e = let n : from ≡ length s - length rest = omega arith in rw n (rest-is-end a)
 
@@ -75,3 +83,9 @@ module _ (most : ℕ) (s : List ℕ) (steps : Steps) where
 -- A sheet of n bytes has at most (n + 2) / 8 steps.
 pub few-steps : (s : List ℕ) (from : ℕ) → length (stepsFrom s from .rows) ≤ mostIn (length s)
 few-steps s from = few.steps-few s from
+
+-- and no more are counted, with room for them or not
+pub few-counted : (s : List ℕ) (from : ℕ) (room : Bool) {d : Decoded} → d ≡ decodedOf room (stepsFrom s from) → d .count ≤ mostIn (length s)
+unfolding decodedOf
+few-counted s from true e = let n = ap (λ (x : Decoded). x .count) e in let few = few-steps s from in omega arith
+few-counted s from false e = let n = ap (λ (x : Decoded). x .count) e in omega arith

@@ -29,15 +29,24 @@ roomFor most kinds doors persons = andAlso (leb most kinds) (andAlso (leb most d
 abbrev pub roomIn : List ℕ → List ℕ → List ℕ → List ℕ → Bool
 roomIn s kinds doors persons = roomFor (mostIn (length s)) (length kinds) (length doors) (length persons)
 
--- the steps as three lists of numbers
+-- the steps as three lists of numbers: each step's own, its door and its person
+abbrev pub numberOf : StepRow → ℕ
+numberOf step = numberOfKind (step .kind)
+
+abbrev pub doorOf : StepRow → ℕ
+doorOf step = step .at
+
+abbrev pub personOf : StepRow → ℕ
+personOf step = step .person
+
 abbrev pub kindsIn : Steps → List ℕ
-kindsIn steps = map (λ (step : StepRow). numberOfKind (step .kind)) (steps .rows)
+kindsIn steps = map numberOf (steps .rows)
 
 abbrev pub doorsIn : Steps → List ℕ
-doorsIn steps = map (λ (step : StepRow). step .at) (steps .rows)
+doorsIn steps = map doorOf (steps .rows)
 
 abbrev pub personsIn : Steps → List ℕ
-personsIn steps = map (λ (step : StepRow). step .person) (steps .rows)
+personsIn steps = map personOf (steps .rows)
 
 -- What is answered: how many steps there are, and whether the sheet ends behind them; 13 where a lent list is too short.
 unfoldable pub decodedOf : Bool → Steps → Decoded

@@ -3,11 +3,11 @@ use mathlib.Core.Path.{_≡_, sym, ap, _∙_}
 use native.Mathlib.Omega.{arith}
 use lib.ListN.{length, take}
 use lib.Seq.{length-take-le}
-use Rattle.grammar.specs.Rows.{rowsFrom}
 use Rattle.record.specs.Run.{toldOf, answerTold, phaseTold, reasonTold}
 use Rattle.run_text.specs.declared.serve.Served.{Served}
-use Rattle.run_text.specs.Steps.{stepsFrom, rowsIn}
-use Rattle.run_text.proofs.Serving.{steps-even, steps-told, front-of}
+use Rattle.steps_sheet.specs.Steps.{stepsFrom}
+use Rattle.steps_sheet.specs.Lent.{mostSteps}
+use Rattle.run_text.proofs.Serving.{told-length, front-of}
 use borrow.Author.Needs.{needs}
 use Rattle.run.proofs.text.print_steps.Statement.{statement}
 use Rattle.run.proofs.text.print_steps.Tie as tie
@@ -30,7 +30,7 @@ array-share-prefix-answers c = search needs
 slice-aggregate-print-run : tie.Need-slice-aggregate-print-run
 slice-aggregate-print-run c =
     let few = c .before .before .before .before .serve .ensures .1 .0 in
-    let long : 6144 ≡ length (c .before .before .before .before .serve .last .1 .1 .1 .0) = search needs in
+    let long : mostSteps ≡ length (c .before .before .before .before .serve .last .1 .1 .1 .0) = search needs in
     sym (length-take-le _ _ (omega arith))
 
 array-share-prefix-phases : tie.Need-array-share-prefix-phases
@@ -39,7 +39,7 @@ array-share-prefix-phases c = search needs
 slice-aggregate-print-run-2 : tie.Need-slice-aggregate-print-run-2
 slice-aggregate-print-run-2 c =
     let few = c .before .before .before .before .before .serve .ensures .1 .0 in
-    let long : 6144 ≡ length (c .before .before .before .before .before .serve .last .1 .1 .1 .1 .0) = search needs in
+    let long : mostSteps ≡ length (c .before .before .before .before .before .serve .last .1 .1 .1 .1 .0) = search needs in
     sym (length-take-le _ _ (omega arith))
 
 array-share-prefix-reasons : tie.Need-array-share-prefix-reasons
@@ -48,16 +48,16 @@ array-share-prefix-reasons c = search needs
 slice-aggregate-print-run-3 : tie.Need-slice-aggregate-print-run-3
 slice-aggregate-print-run-3 c =
     let few = c .before .before .before .before .before .before .serve .ensures .1 .0 in
-    let long : 6144 ≡ length (c .before .before .before .before .before .before .serve .last .1 .1 .1 .1 .1 .0) = search needs in
+    let long : mostSteps ≡ length (c .before .before .before .before .before .before .serve .last .1 .1 .1 .1 .1 .0) = search needs in
     sym (length-take-le _ _ (omega arith))
 
 print-run-requires : tie.Need-print-run-requires
 print-run-requires c κs =
     let few = c .before .before .before .before .before .before .before .serve .ensures .1 .0 in
     let count = c .before .before .before .before .before .before .before .serve .result .count in
-    let la : 6144 ≡ length (c .before .before .before .before .before .before .before .serve .last .1 .1 .1 .0) = search needs in
-    let lp : 6144 ≡ length (c .before .before .before .before .before .before .before .serve .last .1 .1 .1 .1 .0) = search needs in
-    let lr : 6144 ≡ length (c .before .before .before .before .before .before .before .serve .last .1 .1 .1 .1 .1 .0) = search needs in
+    let la : mostSteps ≡ length (c .before .before .before .before .before .before .before .serve .last .1 .1 .1 .0) = search needs in
+    let lp : mostSteps ≡ length (c .before .before .before .before .before .before .before .serve .last .1 .1 .1 .1 .0) = search needs in
+    let lr : mostSteps ≡ length (c .before .before .before .before .before .before .before .serve .last .1 .1 .1 .1 .1 .0) = search needs in
     let a = length-take-le count (c .before .before .before .before .before .before .before .serve .last .1 .1 .1 .0) (omega arith) in
     let p = length-take-le count (c .before .before .before .before .before .before .before .serve .last .1 .1 .1 .1 .0) (omega arith) in
     let r = length-take-le count (c .before .before .before .before .before .before .before .serve .last .1 .1 .1 .1 .1 .0) (omega arith) in
@@ -71,13 +71,12 @@ returns c =
     let a = c .before .before .before .before .before .before .before .before .before .before .before .before .before .before .before .before .args in
     let s = c .before .before .before .before .before .before .before .before .before .before .serve in
     let steps = stepsFrom (a .s .now) (a .from) in
-    let even = steps-even (a .s .now) (rowsFrom (a .s .now) (a .from)) in
     let few = s .ensures .1 .0 in
-    let count : s .result .count ≡ length (steps .kinds) = ap (λ (x : Served). x .count) (s .ensures .0) in
+    let count : s .result .count ≡ length (steps .rows) = ap (λ (x : Served). x .count) (s .ensures .0) in
     let whole : s .result .whole ≡ steps .whole = ap (λ (x : Served). x .whole) (s .ensures .0) in
-    let answers : take (s .result .count) (s .last .1 .1 .1 .0) ≡ toldOf answerTold (a .fresh) (rowsIn steps) = front-of _ _ (count ∙ sym (steps-told answerTold (a .fresh) even)) few (s .ensures .1 .1 .0) in
-    let phases : take (s .result .count) (s .last .1 .1 .1 .1 .0) ≡ toldOf phaseTold (a .fresh) (rowsIn steps) = front-of _ _ (count ∙ sym (steps-told phaseTold (a .fresh) even)) few (s .ensures .1 .1 .1 .0) in
-    let reasons : take (s .result .count) (s .last .1 .1 .1 .1 .1 .0) ≡ toldOf reasonTold (a .fresh) (rowsIn steps) = front-of _ _ (count ∙ sym (steps-told reasonTold (a .fresh) even)) few (s .ensures .1 .1 .1 .1) in
+    let answers : take (s .result .count) (s .last .1 .1 .1 .0) ≡ toldOf answerTold (a .fresh) (steps .rows) = front-of _ _ (count ∙ sym (told-length answerTold (a .fresh) (steps .rows))) few (s .ensures .1 .1 .0) in
+    let phases : take (s .result .count) (s .last .1 .1 .1 .1 .0) ≡ toldOf phaseTold (a .fresh) (steps .rows) = front-of _ _ (count ∙ sym (told-length phaseTold (a .fresh) (steps .rows))) few (s .ensures .1 .1 .1 .0) in
+    let reasons : take (s .result .count) (s .last .1 .1 .1 .1 .1 .0) ≡ toldOf reasonTold (a .fresh) (steps .rows) = front-of _ _ (count ∙ sym (told-length reasonTold (a .fresh) (steps .rows))) few (s .ensures .1 .1 .1 .1) in
     rw (answers, phases, reasons, whole) at (c .before .before .print-run .ensures)
 
 pub print-steps-spec : {M : Type 1} → statement M
