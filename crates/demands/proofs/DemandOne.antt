@@ -17,18 +17,16 @@ use Rattle.grammar.specs.declared.cut.FieldCut.{FieldCut}
 use Rattle.grammar.specs.declared.cut.FieldCut.the-variants.{Next, Last, Fault}
 use Rattle.grammar.specs.declared.cut.RowCut.{RowCut}
 use Rattle.grammar.specs.declared.cut.RowCut.the-variants.{Cut, NoRow, Broken}
-use Rattle.grammar.specs.declared.say.Number.the-variants.{Is, None}
 use Rattle.grammar.specs.Grammar.{Field, bare, quoted, fieldText, comma, cr, lf}
 use Rattle.grammar.specs.Cut.{emptyAt, cutField, cutRow}
 use Rattle.grammar.specs.Where.{cellOf, CellHolds}
 use Rattle.grammar.specs.Past.{past, pastRow}
 use Rattle.grammar.specs.Rows.{onRow, readRows, rowsFrom, countFrom, countRows}
-use Rattle.grammar.specs.Say.{valueFrom, ProperNumber, contentAt, sameBytes, isWord, saysWords, numberAt}
-use Rattle.grammar.specs.Say as say
+use Rattle.grammar.specs.Say.{contentAt, sameBytes, isWord, saysWords}
 use Rattle.grammar.proofs.Steps.{FieldIn, field-in, cut-within}
 use Rattle.grammar.proofs.Found.{FieldFound, with-crlf, with-sheet}
 use Rattle.grammar.proofs.Reading.{cut-behind, cut-there}
-use Rattle.grammar.proofs.Saying.{same-true, read-proper}
+use Rattle.grammar.proofs.Saying.{same-true, number-small}
 use Rattle.grammar.proofs.Theorems.{found-is-row, found-is-field, field-before-comma, field-before-crlf, field-before-end}
 use Rattle.tables.specs.Tables.{orElse, andAlso, mayBe, mostLocations}
 use Rattle.tables.specs.Below.{Tells}
@@ -158,28 +156,6 @@ count-told : (s : List ℕ) → CountTold s (countRows s)
 unfolding countRows rowsFrom
 count-told s = rows-told s (suc (length s - 0)) 0 0 (omega arith) (omega arith)
 
--- three digits make at most 999
-small : (c : List ℕ) (n : ℕ) → ProperNumber c n → n ≤ 999
-unfolding valueFrom
-small [] n p = let v = p .value in omega arith
-small (x ∷ []) n p = let v = p .value in let a = p .digits 0 (omega arith) in omega arith
-small (x ∷ y ∷ []) n p = let v = p .value in let a = p .digits 0 (omega arith) in let b = p .digits 1 (omega arith) in omega arith
-small (x ∷ y ∷ z ∷ []) n p =
-    let v = p .value in
-    let a = p .digits 0 (omega arith) in
-    let b = p .digits 1 (omega arith) in
-    let c = p .digits 2 (omega arith) in
-    omega arith
-small (x ∷ y ∷ z ∷ w ∷ more) n p = let few = p .few in absurd (omega arith)
-
-number-small : (s : List ℕ) (cell : Cell) (n : ℕ) → numberAt s cell ≡ Is n → n ≤ 999
-unfolding numberAt
-number-small s cell n = go (cell .doubled)
-  where
-    go : (b : Bool) → cond b None (say.numberIn (contentAt s cell)) ≡ Is n → n ≤ 999
-    go true e = let z : _≡_ {A = ℕ} 0 1 = cc in absurd (omega arith)
-    go false e = small (contentAt s cell) n (read-proper (contentAt s cell) e)
-
 word-told : (s : List ℕ) (cell : Cell) (word : List ℕ) → isWord s cell word ≡ true → contentAt s cell ≡ word
 unfolding isWord
 word-told s cell word = go (cell .doubled)
@@ -220,7 +196,7 @@ of-sheet =
       first-data-row = λ s. row-told s (pastRow s 0) _ refl;
       is-word = word-told;
       says-words = words-told;
-      number-of = number-small;
+      number-of = λ s cell n e. number-small s cell e;
     }
 
 -- ---- crate `rules`

@@ -1,6 +1,7 @@
 -- The theorems. `Demands` is the file to read: it has each by its name. The others prove their parts.
 --     DemandOne, DemandTwo, Unique   demands 1 and 2, and that answers are unique
 --     Leaves                         demand 1 of the functions on which the record stands
+--     StepsSheet                     demand 1 of the functions over a steps sheet
 --     Accepted                       the record of an accepted site sheet is fresh
 --     TwelveCases                    the paper's cases, and the run that it prints
 --     Example                        what is recorded on that run, and why it is served in that order
@@ -10,6 +11,7 @@ pub mod Example
 pub mod TwelveCases
 pub mod Unique
 pub mod Leaves
+pub mod StepsSheet
 pub mod Fits
 pub mod DemandOne
 pub mod Texts

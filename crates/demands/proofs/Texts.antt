@@ -1,21 +1,16 @@
--- Demand 1 for the crate `run`: where the rows of a steps sheet begin, and the two texts in a lent list. Assumes nothing.
+-- Demand 1 for the crate `run`: the two texts in a lent list. Assumes nothing.
 use Prim.Native.Nat.{ℕ, _+_, _≤_, _<_}
 use mathlib.Core.Path.{_≡_, refl, sym, ap, _∙_}
-use mathlib.Core.Bool.{Bool, true, false, cond, true≢false}
+use mathlib.Core.Bool.{Bool, true, false, true≢false}
 use mathlib.Core.List.{List, [], _∷_, _++_}
 use mathlib.Core.Logic.{inl, inr}
 use native.Mathlib.Omega.{arith}
-use borrow.Author.Tests.{eqb-true, ltb-true, ltb-false, leb-true, leb-false}
-use lib.Dec.{eqb, ltb, leb}
+use borrow.Author.Tests.{eqb-true, leb-true, leb-false}
+use lib.Dec.{eqb, leb}
 use native.Mathlib.Nat.{zero-add}
 use lib.ListN.{length, getD, take, drop, length-append}
 use lib.Seq.{sets-eq, getD-take, length-take-le}
 use Rattle.tables.specs.Tables.{mostLocations}
-use Rattle.grammar.specs.Cut.{cutRow}
-use Rattle.grammar.specs.Rows.{rowsFrom}
-use Rattle.grammar.specs.declared.cut.RowCut.{RowCut}
-use Rattle.grammar.specs.declared.cut.RowCut.the-variants.{Cut, NoRow, Broken}
-use Rattle.grammar.proofs.Reading.{cut-there}
 use Rattle.record.specs.declared.record.Record.{Record}
 use Rattle.record.specs.Doors.{Shaped}
 use Rattle.record.specs.Sound.{Sound}
@@ -26,32 +21,20 @@ use Rattle.site_sheet.specs.Site.{siteOf, verdictNo}
 use Rattle.grammar.specs.Sizes.{limit}
 use Rattle.site_sheet.specs.Accepted.{AcceptedRecord}
 use Rattle.site_sheet.proofs.Theorems.{accepted-holds}
-use Rattle.run_text.specs.declared.steps.Heading.{Heading}
-use Rattle.run_text.specs.declared.steps.Heading.the-variants as heading
+use Rattle.steps_sheet.specs.declared.Heading.{Heading}
+use Rattle.steps_sheet.specs.declared.Heading.the-variants as heading
+use Rattle.steps_sheet.specs.Steps.{headingOf, stepsFrom}
+use Rattle.steps_sheet.proofs.Theorems.{few-steps, headed-short}
 use Rattle.run_text.specs.declared.text.Printed.{Printed}
 use Rattle.run_text.specs.declared.text.Printed.the-variants.{Text, TooShort}
-use Rattle.run_text.specs.Steps.{stepsHeaderAt, headed, headingOf, stepsFrom, rowsIn}
 use Rattle.run_text.specs.Printed.{panelHeader, whereHeader, panelRow, answerRows, lastRow, runText, aloneText, ranText, stepsText, panelText}
 use Rattle.run_text.specs.Printed.{placeRows, placesText, recordText, lastRecord, whereText, fitsIn, printedOf, written, printedNo}
 use Rattle.run_text.proofs.Writing.{four-width}
-use Rattle.run_text.proofs.Serving.{steps-even, steps-told, rows-length}
-use Rattle.run_text.proofs.Sheets.{zero-accepted, headed-short}
-use Rattle.demands.specs.DemandOne.{OneOf, HeadingTold, TextTells, RunAnswers}
+use Rattle.run_text.proofs.Serving.{told-length}
+use Rattle.run_text.proofs.Sheets.{zero-accepted}
+use Rattle.demands.specs.DemandOne.{OneOf, TextTells, RunAnswers}
 use Rattle.demands.proofs.DemandOne.{number-most, of-rules}
-use Rattle.demands.proofs.Fits.{steps-few, rows-short, places-short}
-
-heading-told : (s : List ℕ) → HeadingTold s (headingOf s)
-unfolding headingOf
-heading-told s = go (ltb limit (length s)) refl
-  where
-    cut : length s ≤ limit → (x : RowCut) → cutRow s 0 ≡ x → HeadingTold s (headed s x)
-    cut h (Cut cells next) e = let w = cut-there s 0 e in either (HeadingTold s) (stepsHeaderAt s cells) (λ _. (h, w .0, w .1)) (λ _. h)
-    cut h NoRow e = h
-    cut h (Broken byte) e = h
-
-    go : (q : Bool) → ltb limit (length s) ≡ q → HeadingTold s (cond q heading.TooLong (headed s (cutRow s 0)))
-    go true q = ltb-true limit (length s) q
-    go false q = cut (ltb-false limit (length s) q) (cutRow s 0) refl
+use Rattle.demands.proofs.Fits.{rows-short, places-short}
 
 text-tells : (text out : List ℕ) → TextTells text out
 unfolding printedOf written fitsIn
@@ -96,14 +79,12 @@ ran-fits : (r : Record) → Shaped r → Sound r → (s : List ℕ) (from : ℕ)
 unfolding runText
 ran-fits r sh s sheet from h =
     let steps = stepsFrom sheet from in
-    let rows = rowsIn steps in
-    let even = steps-even sheet (rowsFrom sheet from) in
-    let most = steps-few sheet from in
-    let told : length (toldOf answerTold r (rowsIn (stepsFrom sheet from))) ≡ length (stepsFrom sheet from .kinds) = steps-told answerTold r even in
-    let count : length (rowsIn (stepsFrom sheet from)) ≡ length (stepsFrom sheet from .kinds) = rows-length _ _ _ (even .doors-too) (even .persons-too) in
+    let rows = steps .rows in
+    let most = few-steps sheet from in
+    let told = told-length answerTold r (stepsFrom sheet from .rows) in
     let answers = answerRows 1 (toldOf answerTold r rows) (toldOf phaseTold r rows) (toldOf reasonTold r rows) in
     let end = lastRow (steps .whole) (length (toldOf answerTold r rows) + 1) in
-    let short = rows-short r sh s rows 1 (omega (arith, count, most)) in
+    let short = rows-short r sh s rows 1 (omega (arith, most)) in
     let bad = last-fits (steps .whole) (length (toldOf answerTold r rows) + 1) (omega (arith, told, most)) in
     let l = length-append panelHeader (answers ++ end) in
     let m = length-append answers end in
@@ -113,7 +94,7 @@ steps-fit : (site : List ℕ) → AcceptedRecord site → (steps : List ℕ) (h 
     → length (stepsText (siteOf site .«record») steps h) ≤ 81920
 steps-fit site a steps heading.TooLong e = alone-fits 1 (omega arith)
 steps-fit site a steps heading.Wrong e = alone-fits 2 (omega arith)
-steps-fit site a steps (heading.Rows from) e = ran-fits (siteOf site .«record») (a .shaped) (a .sound) steps from (headed-short steps e)
+steps-fit site a steps (heading.Rows from) e = ran-fits (siteOf site .«record») (a .shaped) (a .sound) steps from (headed-short limit steps e)
 
 panel-fits : (site steps : List ℕ) → length (panelText site steps) ≤ 81920
 unfolding panelText
@@ -144,7 +125,7 @@ last-fits-where : (site : List ℕ) → AcceptedRecord site → (steps : List �
 last-fits-where site a steps heading.TooLong = record-fits (siteOf site .«record») (a .shaped) (a .sound)
 last-fits-where site a steps heading.Wrong = record-fits (siteOf site .«record») (a .shaped) (a .sound)
 last-fits-where site a steps (heading.Rows from) =
-    let rows = rowsIn (stepsFrom steps from) in
+    let rows = stepsFrom steps from .rows in
     record-fits _ (run-shaped (siteOf site .«record») rows (a .shaped)) (run-sound (siteOf site .«record») rows (a .shaped) (a .sound))
 
 none-fit : length (placesText []) ≤ 512
@@ -161,7 +142,6 @@ where-fits site steps =
 pub of-run : RunAnswers
 of-run =
     record {
-      heading-of = heading-told;
       panel-text = λ site steps out. text-tells (panelText site steps) out;
       where-text = λ site steps out. text-tells (whereText site steps) out;
       printed-number = a-text-number;

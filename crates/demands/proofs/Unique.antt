@@ -4,7 +4,8 @@ use mathlib.Core.Path.{_≡_, sym, _∙_}
 use mathlib.Core.List.{List}
 use Rattle.record.proofs.Right.{reason-only}
 use Rattle.site_sheet.proofs.Only.{gives-site}
-use Rattle.demands.specs.Unique.{Unique, SheetUnique, TablesUnique, RulesUnique, DoorUnique, SoundUnique, RecordUnique, SiteUnique, RunUnique, PapersUnique}
+use Rattle.steps_sheet.proofs.Theorems.{heading-exactly, one-list-of-steps}
+use Rattle.demands.specs.Unique.{Unique, SheetUnique, TablesUnique, RulesUnique, DoorUnique, SoundUnique, RecordUnique, SiteUnique, StepsUnique, RunUnique, PapersUnique}
 
 -- an equation allows one answer,
 alone : {A : Type 0} {a : A} → Unique (λ (x : A). x ≡ a)
@@ -62,6 +63,7 @@ door-unique =
     record {
       answer-number = λ a. alone;
       kind-of = λ n. alone;
+      kind-number = λ k. alone;
       allowed-in = λ k phase. alone;
       grants = λ phase. alone;
       among = λ phase holder count d. alone;
@@ -106,10 +108,12 @@ pub site-unique : SiteUnique
 site-unique =
     record { read-site = λ s. alone; verdict-number = λ v. alone; verdict-place = λ v. alone; verdict-second-place = λ v. alone }
 
+pub steps-unique : StepsUnique
+steps-unique = record { heading-of = λ s. alone; decode = λ s from kinds doors persons. beside-three }
+
 pub run-unique : RunUnique
 run-unique =
     record {
-      heading-of = λ s. alone;
       panel-text = λ site steps out. beside;
       where-text = λ site steps out. beside;
       printed-number = λ p. alone;
@@ -120,4 +124,6 @@ papers-unique =
     record {
       table-of-numbers = λ s v w g h. sym (gives-site g) ∙ gives-site h;
       first-reason = λ r d p n m a b. sym (reason-only r d p n a) ∙ reason-only r d p m b;
+      heading = λ most s h k a b. sym (heading-exactly most s h .1 a) ∙ heading-exactly most s k .1 b;
+      steps = λ text x y a b. let e = one-list-of-steps a b in λ i. record { rows = e .0 i; whole = e .1 i };
     }

@@ -2,26 +2,23 @@
 -- Assumes nothing.
 use Prim.Native.Nat.{ℕ, zero, suc, _<_}
 use native.Mathlib.Omega.{arith}
-use mathlib.Core.Path.{_≡_, refl, sym, ap, _∙_}
+use mathlib.Core.Path.{_≡_, refl, sym}
 use mathlib.Core.Bool.{Bool, true, false, cond, true≢false}
 use mathlib.Core.List.{List, []}
 use lib.ListN.{length, getD}
 use lib.Dec.{eqb}
 use borrow.Author.Tests.{eq-eqb, eqb-true, eqb-false}
-use Rattle.tables.proofs.Laws.{clash}
 use Rattle.tables.proofs.Cases.{either}
-use Rattle.grammar.specs.declared.cut.Cell.{Cell}
 use Rattle.grammar.specs.declared.cut.Cells.{Cells}
 use Rattle.grammar.specs.declared.say.Number.{Number}
 use Rattle.grammar.specs.declared.say.Number.the-variants as number
-use Rattle.grammar.specs.Grammar.{Row, Field, content, fields}
-use Rattle.grammar.specs.Where.{holdsQuote, fieldOf, CellHolds, RowHolds}
+use Rattle.grammar.specs.Grammar.{Row, content, fields}
+use Rattle.grammar.specs.Where.{holdsQuote, fieldOf, RowHolds}
 use Rattle.grammar.specs.Say.{ProperNumber, sameBytes, isWord, saysWords, numberIn, numberAt, placeIn}
 use Rattle.grammar.proofs.Saying.{same-true, proper-read, read-proper}
 use Rattle.grammar.proofs.Contents.{both-true, word-same, number-same}
 use Rattle.grammar.proofs.Naming.{none, more, by-place, named-same}
 use Rattle.site_sheet.specs.declared.Word.{Word}
-use Rattle.site_sheet.specs.declared.Word.the-variants as word
 use Rattle.site_sheet.specs.declared.SiteLine.{SiteLine}
 use Rattle.site_sheet.specs.declared.SiteLine.the-variants.{Site, Door, Exit, Right, Bad}
 use Rattle.site_sheet.specs.Line.{siteWord, doorWord, exitWord, rightWord, kindHead, aHead, bHead, siteWords, wordNamed, wordOf, siteLineWith, siteLineOf, siteLineAt, siteHeaderAt}

@@ -3,18 +3,14 @@
 use Prim.Native.Nat.{ℕ, zero, suc, _-_, _≤_, _<_}
 use native.Mathlib.Omega.{arith}
 use mathlib.Core.Path.{_≡_, refl, sym, ap, ap₂, _∙_}
-use mathlib.Core.Bool.{Bool, true, false}
-use mathlib.Core.List.{List, [], _∷_}
-use lib.ListN.{length, drop, length-drop, drop-of-length-le}
-use lib.Dec.{ltb}
-use borrow.Author.Tests.{ltb-true, ltb-false}
+use mathlib.Core.List.{List, _∷_}
+use lib.ListN.{length, drop}
 use Rattle.grammar.specs.declared.cut.RowCut.{RowCut}
 use Rattle.grammar.specs.declared.cut.RowCut.the-variants.{Cut, NoRow, Broken}
 use Rattle.grammar.specs.Cut.{cutRow}
 use Rattle.grammar.specs.Rows.{onRow, rowsFrom}
-use Rattle.grammar.specs.Grammar.{Row, RowAt}
-use Rattle.grammar.proofs.Steps.{cut-within}
-use Rattle.grammar.proofs.Reading.{cut-behind, cut-there, rows-next}
+use Rattle.grammar.specs.Grammar.{Row}
+use Rattle.grammar.proofs.Reading.{cut-there, rows-next}
 use Rattle.grammar.proofs.Unique.{row-unique, no-row-at}
 use Rattle.grammar.proofs.Exact.{cut-is-row, no-row-end, broken-some, broken-none}
 use Rattle.site_sheet.specs.declared.SiteLine.{SiteLine}

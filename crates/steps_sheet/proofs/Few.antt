@@ -7,7 +7,7 @@ use mathlib.Core.Bool.{Bool, true, false, cond}
 use mathlib.Core.List.{List, [], _∷_, _++_}
 use lib.ListN.{length, length-append, length-drop}
 use lib.Dec.{eqb}
-use Rattle.grammar.specs.Grammar.{quote, comma, cr, lf, Field, bare, quoted, content, escape, fieldText, Row, only, _then_, fields, rowText, RowAt, ended, last}
+use Rattle.grammar.specs.Grammar.{quote, comma, cr, lf, Field, bare, quoted, content, escape, fieldText, Row, only, _then_, fields, rowText, ended, last}
 use Rattle.grammar.specs.Where.{fieldOf}
 use Rattle.phases.specs.declared.table.Kind.{Kind}
 use Rattle.phases.specs.Kinds.{StepRow}

@@ -1,11 +1,11 @@
 -- The steps that are read of a text are those that it says, and it says no others; and so its heading.
 -- Assumes nothing.
-use Prim.Native.Nat.{ℕ, zero, suc, _+_, _-_, _≤_, _<_}
+use Prim.Native.Nat.{ℕ, zero, suc, _-_, _≤_, _<_}
 use native.Mathlib.Omega.{arith}
 use mathlib.Core.Path.{_≡_, refl, sym, ap, _∙_}
 use mathlib.Core.Logic.{_↔_}
 use mathlib.Core.Bool.{Bool, true}
-use mathlib.Core.List.{List, [], _∷_}
+use mathlib.Core.List.{List, _∷_}
 use lib.ListN.{length, drop}
 use lib.Dec.{ltb}
 use borrow.Author.Tests.{ltb-true, ltb-false}
@@ -26,7 +26,7 @@ use Rattle.phases.specs.Kinds.{StepRow}
 use Rattle.steps_sheet.specs.declared.StepsLine.{StepsLine}
 use Rattle.steps_sheet.specs.declared.StepsLine.the-variants.{Step, Bad}
 use Rattle.steps_sheet.specs.declared.Heading.{Heading}
-use Rattle.steps_sheet.specs.declared.Heading.the-variants.{TooLong, Wrong, Rows}
+use Rattle.steps_sheet.specs.declared.Heading.the-variants.{Rows}
 use Rattle.steps_sheet.specs.Words.{stepHead, doorHead, personHead}
 use Rattle.steps_sheet.specs.Says.{Steps, SaysStep, TextSays, nothing, a-step, bad-row, no-row-there, HeaderRow, HeadingSays, too-long, wrong, rows-at}
 use Rattle.steps_sheet.specs.Steps.{stepsLineAt, stepsHeaderAt, headed, headingAt, before, stepsIn, stepsFrom}

@@ -1,6 +1,6 @@
 -- The steps of a sheet in lent lists: the number of each, its door and its person. 13: "list lent .. is shorter".
 use Prim.Native.Nat.{ℕ, _+_, _/_}
-use mathlib.Core.Bool.{Bool, true, false, cond}
+use mathlib.Core.Bool.{Bool, false, cond}
 use mathlib.Core.List.{List, map}
 use lib.ListN.{length}
 use lib.Seq.{sets}
