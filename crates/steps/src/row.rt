@@ -29,7 +29,7 @@ fn kind_of(s: &[u8], cell: Cell) -> Kind
 
 // The same of a field that names none of the first three steps.
 fn kind_from_red(s: &[u8], cell: Cell) -> Kind
-    ensures { λ r. ⌜ r ≡ kindFrom 3 (now (s .entry)) cell ⌝ }
+    ensures { λ r. ⌜ r ≡ kindFrom Kind.Red (now (s .entry)) cell ⌝ }
 {
     if is_word(s, cell, b"red") {
         return Kind::Red;
@@ -45,7 +45,7 @@ fn kind_from_red(s: &[u8], cell: Cell) -> Kind
 
 // The same of a field that names none of the first six.
 fn kind_from_passed(s: &[u8], cell: Cell) -> Kind
-    ensures { λ r. ⌜ r ≡ kindFrom 6 (now (s .entry)) cell ⌝ }
+    ensures { λ r. ⌜ r ≡ kindFrom Kind.Passed (now (s .entry)) cell ⌝ }
 {
     if is_word(s, cell, b"passed") {
         return Kind::Passed;
@@ -58,7 +58,7 @@ fn kind_from_passed(s: &[u8], cell: Cell) -> Kind
 
 // The same of a field that names none of the first eight.
 fn kind_from_dark(s: &[u8], cell: Cell) -> Kind
-    ensures { λ r. ⌜ r ≡ kindFrom 8 (now (s .entry)) cell ⌝ }
+    ensures { λ r. ⌜ r ≡ kindFrom Kind.Dark (now (s .entry)) cell ⌝ }
 {
     if is_word(s, cell, b"dark") {
         return Kind::Dark;

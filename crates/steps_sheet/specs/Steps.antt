@@ -16,6 +16,7 @@ use Rattle.grammar.specs.declared.cut.RowCut.the-variants.{Cut, NoRow, Broken}
 use Rattle.grammar.specs.declared.say.Number.{Number}
 use Rattle.grammar.specs.declared.say.Number.the-variants.{Is, None}
 use Rattle.phases.specs.declared.table.Kind.{Kind}
+use Rattle.phases.specs.declared.table.Kind.the-variants.{Card}
 use Rattle.phases.specs.Kinds.{kindOf, numberOfKind, namesPerson}
 use Rattle.steps_sheet.specs.declared.StepsLine.{StepsLine}
 use Rattle.steps_sheet.specs.declared.StepsLine.the-variants.{Step, Bad}
@@ -24,12 +25,12 @@ use Rattle.steps_sheet.specs.declared.Heading.the-variants.{TooLong, Wro
 use Rattle.steps_sheet.specs.Words.{stepWords, stepHead, doorHead, personHead}
 use Rattle.steps_sheet.specs.Says.{Steps}
 
--- the step that a field names among those from the nth on, and among all of them
-abbrev pub kindFrom : ℕ → List ℕ → Cell → Kind
-kindFrom n s cell = namedFrom kindOf n (drop n stepWords) s cell
+-- the step that a field names among those from this one on in the paper's order, and among all of them
+abbrev pub kindFrom : Kind → List ℕ → Cell → Kind
+kindFrom first s cell = namedFrom kindOf (numberOfKind first) (drop (numberOfKind first) stepWords) s cell
 
 abbrev pub kindAt : List ℕ → Cell → Kind
-kindAt s cell = kindFrom 0 s cell
+kindAt s cell = kindFrom Card s cell
 
 -- "the person is empty except for `card`, where it must be a number"
 unfoldable pub personAt : List ℕ → Kind → Cell → Number
