@@ -31,6 +31,10 @@ pub data NoQuotes : List (List ℕ) → Type 0 where
 
 -- ---- the place of a content
 
+both-ways : (P : ℕ → Type 0) (q : Bool) {x y : ℕ} → P x → P y → P (cond q x y)
+both-ways P true a b = a
+both-ways P false a b = b
+
 below-or-past : (a b : ℕ) → (a < b) ⊎ (b ≤ a)
 below-or-past a b = go (ltb a b) refl
   where
@@ -41,11 +45,7 @@ below-or-past a b = go (ltb a b) refl
 pub place-within : (words : List (List ℕ)) (c : List ℕ) → placeIn words c ≤ length words
 unfolding placeIn
 place-within [] c = omega arith
-place-within (word ∷ words) c = go (sameBytes c word) (place-within words c)
-  where
-    go : (q : Bool) → placeIn words c ≤ length words → cond q 0 (placeIn words c + 1) ≤ length (word ∷ words)
-    go true h = omega arith
-    go false h = omega arith
+place-within (word ∷ words) c = let h = place-within words c in both-ways (λ (n : ℕ). n ≤ length (word ∷ words)) (sameBytes c word) (omega arith) (omega arith)
 
 -- where a content is found, it is that word and none before
 pub place-word : (words : List (List ℕ)) (c : List ℕ) (n : ℕ) → n < length words → placeIn words c ≡ n → WordAt words c n
@@ -53,7 +53,7 @@ unfolding placeIn
 place-word [] c n h e = absurd (omega arith)
 place-word (word ∷ words) c n h e = go (sameBytes c word) refl n h e (place-word words c)
   where
-    go : (q : Bool) → sameBytes c word ≡ q → (n : ℕ) → n < length (word ∷ words) → cond (sameBytes c word) 0 (placeIn words c + 1) ≡ n
+    go : (q : Bool) → sameBytes c word ≡ q → (n : ℕ) → n < length (word ∷ words) → placeIn (word ∷ words) c ≡ n
         → ((m : ℕ) → m < length words → placeIn words c ≡ m → WordAt words c m) → WordAt (word ∷ words) c n
     go true q zero h e rest = record { is = same-true c word q; none-before = λ k l. absurd (omega arith) }
     go true q (suc n) h e rest = absurd (omega (arith, rw q at e))

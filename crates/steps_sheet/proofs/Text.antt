@@ -7,7 +7,6 @@ use mathlib.Core.Logic.{_↔_}
 use mathlib.Core.Bool.{Bool, true}
 use mathlib.Core.List.{List, _∷_}
 use lib.ListN.{length, drop}
-use lib.Dec.{ltb}
 use borrow.Author.Tests.{ltb-true, ltb-false}
 use Rattle.tables.proofs.Laws.{clash}
 use Rattle.tables.proofs.Cases.{either}
@@ -114,8 +113,7 @@ module _ (most : ℕ) (s : List ℕ) where
   pub heading-says : HeadingSays most s (headingAt most s)
   unfolding headingAt
   heading-says =
-      either (HeadingSays most s) (ltb most (length s)) (λ l. too-long (ltb-true most (length s) l))
-      (λ l. heading-cut (ltb-false most (length s) l) (cutRow s 0) refl)
+      either (HeadingSays most s) _ (λ l. too-long (ltb-true most _ l)) (λ l. heading-cut (ltb-false most _ l) (cutRow s 0) refl)
 
   pub heading-unique : {h k : Heading} → HeadingSays most s h → HeadingSays most s k → h ≡ k
   heading-unique (too-long l) (too-long m) = refl
