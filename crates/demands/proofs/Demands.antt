@@ -24,12 +24,13 @@ use Rattle.demands.specs.Unique.{AnswersUnique}
 use Rattle.demands.specs.Cases.{TwelveCases}
 use Rattle.demands.proofs.DemandOne.{of-sheet, of-rules, of-record, of-site}
 use Rattle.demands.proofs.Leaves.{of-tables, of-door, of-sound}
+use Rattle.demands.proofs.StepsSheet.{of-steps}
 use Rattle.demands.proofs.Texts.{of-text, of-run}
 use Rattle.demands.proofs.DemandTwo.{way-of, after-steps, is-event, decided, starts, alters, green-counts, red-counts}
 use Rattle.card_by_card.proofs.DemandThree as three
 use Rattle.card_by_card.proofs.Warden as warden
 use Rattle.demands.proofs.Accepted.{accepted-fresh}
-use Rattle.demands.proofs.Unique.{sheet-unique, text-unique, tables-unique, rules-unique, door-unique, sound-unique, record-unique, site-unique, run-unique, papers-unique}
+use Rattle.demands.proofs.Unique.{sheet-unique, text-unique, tables-unique, rules-unique, door-unique, sound-unique, record-unique, site-unique, steps-unique, run-unique, papers-unique}
 use Rattle.demands.proofs.Answered.{of-enums, enums-unique}
 use Rattle.demands.proofs.TwelveCases as cases
 
@@ -47,6 +48,7 @@ demand-1 =
       of-record = of-record;
       of-enums = of-enums;
       of-site = of-site;
+      of-steps = of-steps;
       of-run = of-run;
     }
 
@@ -101,6 +103,7 @@ answers-unique =
       of-record = record-unique;
       of-enums = enums-unique;
       of-site = site-unique;
+      of-steps = steps-unique;
       of-run = run-unique;
       of-the-papers = papers-unique;
     }

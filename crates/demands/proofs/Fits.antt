@@ -1,6 +1,5 @@
--- Every text that the two programs print fits into the list that they lend: a sheet has few steps, and what is told of a
--- step is short. Assumes nothing.
-use Prim.Native.Nat.{ℕ, zero, suc, _+_, _-_, _*_, _≤_, _<_}
+-- Every text that the two programs print fits into the list that they lend: what is told of a step is short. Assumes nothing.
+use Prim.Native.Nat.{ℕ, suc, _+_, _-_, _*_, _≤_, _<_}
 use mathlib.Core.Path.{_≡_, refl, ap}
 use mathlib.Core.Bool.{Bool, true, false}
 use mathlib.Core.List.{List, [], _∷_}
@@ -8,11 +7,6 @@ use native.Mathlib.Omega.{arith}
 use borrow.Author.Tests.{ltb-true, ltb-false}
 use lib.Dec.{ltb}
 use lib.ListN.{length, getD, length-append}
-use Rattle.grammar.specs.Cut.{cutRow}
-use Rattle.grammar.specs.Rows.{readRows, rowsFrom, onRow}
-use Rattle.grammar.specs.declared.cut.RowCut.{RowCut}
-use Rattle.grammar.specs.declared.cut.RowCut.the-variants.{Cut, NoRow, Broken}
-use Rattle.grammar.specs.declared.cut.Cells.{Cells}
 use Rattle.record.specs.declared.record.Record.{Record}
 use Rattle.door.specs.declared.Door.{Door}
 use Rattle.phases.specs.declared.table.Kind.{Kind}
@@ -32,48 +26,10 @@ use Rattle.tables.proofs.Cases.{either}
 use Rattle.record.proofs.Laws.{sound-stays, shaped-stays}
 use Rattle.demands.specs.DemandOne.{DoesTold}
 use Rattle.demands.proofs.Leaves.{effect-told, reason-small}
-use Rattle.run_text.specs.declared.steps.StepsLine.{StepsLine}
-use Rattle.run_text.specs.declared.steps.StepsLine.the-variants as line
-use Rattle.run_text.specs.Steps.{stepsLineAt, before, stepsIn, stepsFrom}
 use Rattle.text.specs.Text.{rowOfNumbers}
 use Rattle.run_text.specs.Printed.{panelRow, answerRows, placeRows}
 use Rattle.text.proofs.Decimal.{one-digit, two-digits, four-digits}
 use Rattle.text.proofs.Rows.{last-length, more-length}
-use Rattle.run_text.proofs.Decoding.{Takes, step-takes}
-
--- ---- a sheet has few steps: each takes eight bytes
-
--- a step's row leaves that much less for those behind it
-taken : {s : List ℕ} {at next : ℕ} (n : ℕ) (q : Bool) → ltb next (length s) ≡ q → Takes s at next → 8 * n ≤ length s + 2 - next → 8 * suc n ≤ length s + 2 - at
-taken {s} {at} {next} n true q t h =
-    let eight = t .eight (ltb-true next (length s) q) in
-    omega arith
-taken {s} {at} {next} n false q t h =
-    let six = t .six in
-    let end = ltb-false next (length s) q in
-    omega arith
-
-few : (most : ℕ) (s : List ℕ) (at : ℕ) → 8 * length (stepsIn s (readRows most s at) .kinds) ≤ length s + 2 - at
-unfolding readRows stepsIn
-few zero s at = omega arith
-few (suc most) s at = go (cutRow s at) refl (few most s)
-  where
-    step : (cells : Cells) (next : ℕ) → cutRow s at ≡ Cut cells next → (said : StepsLine) → stepsLineAt s cells ≡ said
-        → 8 * length (stepsIn s (readRows most s next) .kinds) ≤ length s + 2 - next
-        → 8 * length (before said (stepsIn s (readRows most s next)) .kinds) ≤ length s + 2 - at
-    step cells next e line.Bad l h = omega arith
-    step cells next e (line.Step k d p) l h =
-        taken _ (ltb next (length s)) refl (step-takes s at e l) h
-
-    go : (cut : RowCut) → cutRow s at ≡ cut → ((next : ℕ) → 8 * length (stepsIn s (readRows most s next) .kinds) ≤ length s + 2 - next)
-        → 8 * length (stepsIn s (onRow cut (λ next. readRows most s next)) .kinds) ≤ length s + 2 - at
-    go (Cut cells next) e h = step cells next e (stepsLineAt s cells) refl (h next)
-    go NoRow e h = omega arith
-    go (Broken byte) e h = omega arith
-
-pub steps-few : (s : List ℕ) (from : ℕ) → 8 * length (stepsFrom s from .kinds) ≤ length s + 2 - from
-unfolding rowsFrom
-steps-few s from = few _ s from
 
 -- ---- what is told of a step is short
 

@@ -23,6 +23,7 @@ use Rattle.phases.specs.Answers.{answerNo}
 use Rattle.phases.specs.Kinds.{kindOf}
 use Rattle.door.specs.Does.{burns, effect}
 use Rattle.phases.proofs.Entries.{table-allows}
+use Rattle.phases.proofs.Steps.{kind-back}
 use Rattle.granting.specs.Grants.{GrantAt, hasGrant}
 use Rattle.granting.specs.Reasons.{firstReason}
 use Rattle.soundness.specs.SoundTest.{zeroBeyond, placesFit, doorsFit, grantsFit, soleGrants, doorsSound, listsSound}
@@ -85,6 +86,7 @@ of-door =
     record {
       answer-number = a-number;
       kind-of = no-step;
+      kind-number = kind-back;
       allowed-in = table-allows;
       grants = λ phase. tell-and (tell-le granted phase) (tell-le phase expired);
       among = far-free;

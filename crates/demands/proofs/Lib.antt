@@ -2,6 +2,7 @@
 --     DemandOne, DemandTwo, Unique   demands 1 and 2, and that answers are unique
 --     Answered                       enum answers by the papers' numbers and values
 --     Leaves                         demand 1 of the functions on which the record stands
+--     StepsSheet                     demand 1 of the functions over a steps sheet
 --     Accepted                       the record of an accepted site sheet is fresh
 --     TwelveCases                    the paper's cases, and the run that it prints
 --     Example                        what is recorded on that run, and why it is served in that order
@@ -12,6 +13,7 @@ pub mod TwelveCases
 pub mod Unique
 pub mod Answered
 pub mod Leaves
+pub mod StepsSheet
 pub mod Fits
 pub mod DemandOne
 pub mod Texts

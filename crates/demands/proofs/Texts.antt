@@ -1,21 +1,16 @@
--- Demand 1 for the crates `text` and `run`: a text in a lent list, where the rows of a steps sheet begin, and the two texts. Assumes nothing.
+-- Demand 1 for the crates `text` and `run`: a text in a lent list, and the two texts. Assumes nothing.
 use Prim.Native.Nat.{ℕ, _+_, _≤_, _<_}
 use mathlib.Core.Path.{_≡_, refl, sym, ap, _∙_}
-use mathlib.Core.Bool.{Bool, true, false, cond, true≢false}
+use mathlib.Core.Bool.{Bool, true, false, true≢false}
 use mathlib.Core.List.{List, [], _∷_, _++_}
 use mathlib.Core.Logic.{inl, inr}
 use native.Mathlib.Omega.{arith}
-use borrow.Author.Tests.{eqb-true, ltb-true, ltb-false, leb-true, leb-false}
-use lib.Dec.{eqb, ltb, leb}
+use borrow.Author.Tests.{eqb-true, leb-true, leb-false}
+use lib.Dec.{eqb, leb}
 use native.Mathlib.Nat.{zero-add}
 use lib.ListN.{length, getD, take, drop, replicate, length-append, length-replicate}
 use lib.Seq.{length-sets, sets-eq, getD-take, length-take-le}
 use Rattle.tables.specs.Tables.{Plan, mostPeople, mostLocations}
-use Rattle.grammar.specs.Cut.{cutRow}
-use Rattle.grammar.specs.Rows.{rowsFrom}
-use Rattle.grammar.specs.declared.cut.RowCut.{RowCut}
-use Rattle.grammar.specs.declared.cut.RowCut.the-variants.{Cut, NoRow, Broken}
-use Rattle.grammar.proofs.Reading.{cut-there}
 use Rattle.record.specs.declared.record.Record.{Record}
 use Rattle.record.specs.Doors.{Shaped}
 use Rattle.record.specs.Sound.{Sound}
@@ -26,8 +21,10 @@ use Rattle.site_sheet.specs.Site.{siteOf, verdictNo}
 use Rattle.grammar.specs.Sizes.{limit}
 use Rattle.site_sheet.specs.Accepted.{AcceptedRecord}
 use Rattle.site_sheet.proofs.Theorems.{accepted-holds, accepted-people}
-use Rattle.run_text.specs.declared.steps.Heading.{Heading}
-use Rattle.run_text.specs.declared.steps.Heading.the-variants as heading
+use Rattle.steps_sheet.specs.declared.Heading.{Heading}
+use Rattle.steps_sheet.specs.declared.Heading.the-variants as heading
+use Rattle.steps_sheet.specs.Steps.{headingOf, stepsFrom}
+use Rattle.steps_sheet.proofs.Theorems.{few-steps, headed-short}
 use Rattle.text.specs.declared.printed.Printed.{Printed}
 use Rattle.text.specs.declared.printed.Printed.the-variants.{Text, TooShort}
 use Rattle.text.specs.Wrote.{Wrote}
@@ -36,28 +33,14 @@ use Rattle.text.specs.Printed.{fitsIn, printedOf, written, printedNo}
 use Rattle.text.proofs.Writing.{sets-past}
 use Rattle.text.proofs.Decimal.{decimal-some}
 use Rattle.text.proofs.Rows.{row-some}
-use Rattle.run_text.specs.Steps.{stepsHeaderAt, headed, headingOf, stepsFrom, rowsIn}
 use Rattle.run_text.specs.Printed.{panelHeader, whereHeader, panelRow, answerRows, lastRow, runText, aloneText, ranText, stepsText, panelText}
 use Rattle.run_text.specs.Printed.{placeRows, placesText, recordText, lastRecord, whereText, mostPanelText, mostWhereText}
-use Rattle.run_text.proofs.Serving.{steps-even, steps-replied, rows-length}
-use Rattle.run_text.proofs.Sheets.{zero-accepted, headed-short}
-use Rattle.demands.specs.DemandOne.{TextWritten, TextTells, TextAnswers, HeadingTold, RunAnswers}
+use Rattle.run_text.proofs.Serving.{replies-length}
+use Rattle.run_text.proofs.Sheets.{zero-accepted}
+use Rattle.demands.specs.DemandOne.{TextWritten, TextTells, TextAnswers, RunAnswers}
 use Rattle.demands.specs.Telling.{OneOf}
 use Rattle.demands.proofs.DemandOne.{number-most, of-rules}
-use Rattle.demands.proofs.Fits.{steps-few, row-short, rows-short, places-short}
-
-heading-told : (s : List ℕ) → HeadingTold s (headingOf s)
-unfolding headingOf
-heading-told s = go (ltb limit (length s)) refl
-  where
-    cut : length s ≤ limit → (x : RowCut) → cutRow s 0 ≡ x → HeadingTold s (headed s x)
-    cut h (Cut cells next) e = let w = cut-there s 0 e in either (HeadingTold s) (stepsHeaderAt s cells) (λ _. (h, w .0, w .1)) (λ _. h)
-    cut h NoRow e = h
-    cut h (Broken byte) e = h
-
-    go : (q : Bool) → ltb limit (length s) ≡ q → HeadingTold s (cond q heading.TooLong (headed s (cutRow s 0)))
-    go true q = ltb-true limit (length s) q
-    go false q = cut (ltb-false limit (length s) q) (cutRow s 0) refl
+use Rattle.demands.proofs.Fits.{row-short, rows-short, places-short}
 
 text-tells : (text out : List ℕ) → TextTells text out
 unfolding printedOf written fitsIn
@@ -123,14 +106,12 @@ ran-fits : (r : Record) → Shaped r → Sound r → (s : List ℕ) (from : ℕ)
 unfolding runText
 ran-fits r sh s sheet from h =
     let steps = stepsFrom sheet from in
-    let rows = rowsIn steps in
-    let even = steps-even sheet (rowsFrom sheet from) in
-    let most = steps-few sheet from in
-    let told : length (repliesOf r (rowsIn (stepsFrom sheet from))) ≡ length (stepsFrom sheet from .kinds) = steps-replied r even in
-    let count : length (rowsIn (stepsFrom sheet from)) ≡ length (stepsFrom sheet from .kinds) = rows-length _ _ _ (even .doors-too) (even .persons-too) in
+    let rows = steps .rows in
+    let most = few-steps sheet from in
+    let told = replies-length r (stepsFrom sheet from .rows) in
     let answers = answerRows 1 (repliesOf r rows) in
     let end = lastRow (steps .whole) (length (repliesOf r rows) + 1) in
-    let short = rows-short r sh s rows 1 (omega (arith, count, most)) in
+    let short = rows-short r sh s rows 1 (omega (arith, most)) in
     let bad = last-fits (steps .whole) (length (repliesOf r rows) + 1) (omega (arith, told, most)) in
     let l = length-append panelHeader (answers ++ end) in
     let m = length-append answers end in
@@ -140,7 +121,7 @@ steps-fit : (site : List ℕ) → AcceptedRecord limit site → (steps : List �
     → length (stepsText (siteOf site .«record») steps h) ≤ mostPanelText
 steps-fit site a steps heading.TooLong e = alone-fits 1 (omega arith)
 steps-fit site a steps heading.Wrong e = alone-fits 2 (omega arith)
-steps-fit site a steps (heading.Rows from) e = ran-fits (siteOf site .«record») (a .shaped) (a .sound) steps from (headed-short steps e)
+steps-fit site a steps (heading.Rows from) e = ran-fits (siteOf site .«record») (a .shaped) (a .sound) steps from (headed-short limit steps e)
 
 panel-fits : (site steps : List ℕ) → length (panelText site steps) ≤ mostPanelText
 unfolding panelText
@@ -170,7 +151,7 @@ last-fits-where : (site : List ℕ) → AcceptedRecord limit site → (steps : L
 last-fits-where site a steps heading.TooLong = record-fits (siteOf site .«record») (a .sound) (accepted-people a)
 last-fits-where site a steps heading.Wrong = record-fits (siteOf site .«record») (a .sound) (accepted-people a)
 last-fits-where site a steps (heading.Rows from) =
-    let rows = rowsIn (stepsFrom steps from) in
+    let rows = stepsFrom steps from .rows in
     record-fits _ (run-sound (siteOf site .«record») rows (a .shaped) (a .sound))
     (rw (ap (λ (plan : Plan). plan .people) (run-plan (siteOf site .«record») rows)) (accepted-people a))
 
@@ -195,7 +176,6 @@ in-blank {most} text h = let l = blank-long most in text-tells text (replicate m
 pub of-run : RunAnswers
 of-run =
     record {
-      heading-of = heading-told;
       panel-text = λ site steps out. text-tells (panelText site steps) out;
       where-text = λ site steps out. text-tells (whereText site steps) out;
       blank-sheet = λ s h. let l = blank-long (limit + 1) in omega arith;

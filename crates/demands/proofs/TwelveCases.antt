@@ -29,10 +29,10 @@ use Rattle.record.proofs.Laws.{sound-steps, sound-stays, shaped-stays, run-soun
 use Rattle.record.proofs.Tells.{sound-tells}
 use Rattle.grammar.specs.Cut.{bareMove, shutMove, moveOf, endOf, fieldFrom, pushed, rowFrom, cutRow}
 use Rattle.grammar.specs.Rows.{readRows, rowsFrom}
-use Rattle.grammar.specs.Say.{valueFrom, digitsFrom, needlessZero, numberIn, contentAt, sameBytes, isWord, saysWords, numberAt}
+use Rattle.grammar.specs.Say.{valueFrom, digitsFrom, needlessZero, numberIn, contentAt, sameBytes, isWord, placeIn, placeAmong, namedFrom, saysWords, numberAt}
 use Rattle.verdict.specs.declared.Verdict.the-variants.{Accepted, NoExit, Stray, NoDoor, NoRight, ShutOut}
 use Rattle.site_sheet.specs.Draft.{unmarked, siteRowFits, takeSite, doorRowFits, takeDoor, exitRowFits, takeExit, rightRowFits, takeRight, takeLine}
-use Rattle.site_sheet.specs.Line.{wordOf, siteLineAt, siteHeaderAt}
+use Rattle.site_sheet.specs.Line.{wordNamed, siteLineAt, siteHeaderAt}
 use Rattle.site_sheet.specs.Site.{linesIn, readLines, judged, settled, afterHeader, siteAt, siteOf}
 use Rattle.run_events.specs.Lines.{Line, linesOf, heardOf}
 use Rattle.card_by_card.specs.Serving.{stepAt, ticked}
@@ -52,7 +52,7 @@ sheets : (siteOf siteSheet .verdict ≡ Accepted)
     × (siteOf withoutRightOf0 .verdict ≡ NoRight 0 2)
     × (siteOf withoutRightOf1 .verdict ≡ ShutOut 1)
     × (freshSite ≡ site-of-01)
-unfolding bareMove shutMove moveOf endOf fieldFrom pushed rowFrom cutRow readRows rowsFrom valueFrom digitsFrom needlessZero numberIn contentAt sameBytes isWord saysWords numberAt orAt leastBelow withLocation locationOf leastPair someBelow orElse andAlso mayBe lacksExit firstNoExit strays firstStray joins lacksDoor firstNoDoor lacksRight firstNoRight letsIn shutOut firstShutOut unlessOutside wayOut unvisited wayOf unmarked siteRowFits takeSite doorRowFits takeDoor exitRowFits takeExit rightRowFits takeRight takeLine wordOf siteLineAt siteHeaderAt linesIn readLines judged settled afterHeader siteAt zeros
+unfolding bareMove shutMove moveOf endOf fieldFrom pushed rowFrom cutRow readRows rowsFrom valueFrom digitsFrom needlessZero numberIn contentAt sameBytes isWord saysWords numberAt orAt leastBelow withLocation locationOf leastPair someBelow orElse andAlso mayBe lacksExit firstNoExit strays firstStray joins lacksDoor firstNoDoor lacksRight firstNoRight letsIn shutOut firstShutOut unlessOutside wayOut unvisited wayOf unmarked siteRowFits takeSite doorRowFits takeDoor exitRowFits takeExit rightRowFits takeRight takeLine placeIn placeAmong namedFrom wordNamed siteLineAt siteHeaderAt linesIn readLines judged settled afterHeader siteAt zeros
 sheets = (refl, refl, refl, refl, refl, refl, refl)
 
 fresh : Fresh freshSite

@@ -7,8 +7,9 @@ use Rattle.site_sheet.proofs.Only.{gives-site}
 use Rattle.text.specs.declared.printed.Printed.{Printed}
 use Rattle.text.specs.Wrote.{Wrote}
 use Rattle.text.specs.Printed.{Prints}
+use Rattle.steps_sheet.proofs.Theorems.{heading-exactly, one-list-of-steps}
 use Rattle.demands.specs.Telling.{Unique}
-use Rattle.demands.specs.Unique.{SheetUnique, TextUnique, TablesUnique, RulesUnique, DoorUnique, SoundUnique, RecordUnique, SiteUnique, RunUnique, PapersUnique}
+use Rattle.demands.specs.Unique.{SheetUnique, TextUnique, TablesUnique, RulesUnique, DoorUnique, SoundUnique, RecordUnique, SiteUnique, StepsUnique, RunUnique, PapersUnique}
 
 -- an equation allows one answer,
 pub alone : {A : Type 0} {a : A} → Unique (λ (x : A). x ≡ a)
@@ -82,6 +83,7 @@ door-unique =
     record {
       answer-number = λ a. alone;
       kind-of = λ n. alone;
+      kind-number = λ k. alone;
       allowed-in = λ k phase. alone;
       grants = λ phase. alone;
       among = λ phase holder count d. alone;
@@ -126,10 +128,12 @@ pub site-unique : SiteUnique
 site-unique =
     record { read-site = λ s. alone; verdict-number = λ v. alone; verdict-place = λ v. alone; verdict-second-place = λ v. alone }
 
+pub steps-unique : StepsUnique
+steps-unique = record { heading-of = λ s. alone; decode = λ s from kinds doors persons. beside-three }
+
 pub run-unique : RunUnique
 run-unique =
     record {
-      heading-of = λ s. alone;
       panel-text = λ site steps out. one-printed;
       where-text = λ site steps out. one-printed;
       blank-sheet = alone;
@@ -142,4 +146,6 @@ papers-unique =
     record {
       table-of-numbers = λ s v w g h. sym (gives-site g) ∙ gives-site h;
       first-reason = λ r d p n m a b. sym (reason-only r d p n a) ∙ reason-only r d p m b;
+      heading = λ most s h k a b. sym (heading-exactly most s h .1 a) ∙ heading-exactly most s k .1 b;
+      steps = λ text x y a b. let e = one-list-of-steps a b in λ i. record { rows = e .0 i; whole = e .1 i };
     }

@@ -55,7 +55,7 @@ use Rattle.record.specs.Doors.{freshRecord, Shaped}
 use Rattle.granting.specs.Grants.{GrantAt, grantOf}
 use Rattle.granting.specs.Reasons.{firstReason}
 use Rattle.soundness.specs.SoundTest.{listsSound}
-use Rattle.phases.specs.Kinds.{kindOf, allows, namesPerson}
+use Rattle.phases.specs.Kinds.{kindOf, numberOfKind, allows, namesPerson}
 use Rattle.phases.specs.Table.{asked}
 use Rattle.record.specs.Sound.{ZeroBeyond, Sound}
 use Rattle.record.specs.SoundTest.{soundB}
@@ -67,9 +67,10 @@ use Rattle.site_sheet.specs.Site.{siteOf, blankRecord, firstPlace, secondPlace}
 use Rattle.grammar.specs.Sizes.{limit, width}
 use Rattle.site_sheet.specs.Site as site
 use Rattle.site_sheet.specs.Gives.{Gives}
-use Rattle.run_text.specs.declared.steps.Heading.{Heading}
-use Rattle.run_text.specs.declared.steps.Heading.the-variants as heading
-use Rattle.run_text.specs.Steps.{headingOf}
+use Rattle.steps_sheet.specs.declared.Heading.{Heading}
+use Rattle.steps_sheet.specs.Says.{Steps, TextSaysSteps, HeadingSays}
+use Rattle.steps_sheet.specs.Steps.{headingOf}
+use Rattle.steps_sheet.specs.Lent.{mostIn, kindsIn, doorsIn, personsIn, decodedIn, kindsListed, doorsListed, personsListed}
 use Rattle.run_text.specs.Printed.{panelText, whereText, mostPanelText, mostWhereText}
 use Rattle.demands.specs.Telling.{Order, done, _unless_then_, NumberBy, OneOf}
 use Rattle.demands.specs.Answered.{EnumAnswers}
@@ -189,6 +190,8 @@ pub record DoorAnswers : Type 0 where
   pub answer-number : (a : Answer) → OneOf (0 ∷ 11 ∷ 12 ∷ 13 ∷ 14 ∷ []) (answerNo a)
   -- a number past 9 names no step, and no phase allows that
   pub kind-of : (n : ℕ) → 10 ≤ n → kindOf n ≡ Unknown
+  -- the number of a step names it
+  pub kind-number : (k : Kind) → kindOf (numberOfKind k) ≡ k
   -- "one fixed table, a hundred entries": at the ten phases it says what the steps' own rules say
   pub allowed-in : (k : Kind) (phase : ℕ) → phase ≤ closed → asked k phase ≡ allows k phase
   -- "Phases 2 to 5 hold a grant"
@@ -326,16 +329,35 @@ pub record SiteAnswers : Type 0 where
   -- "Unused place numbers are 0.": 9 alone tells two
   pub verdict-second-place : (v : Verdict) → (site.verdictNo v ≡ 9 → ⊥) → secondPlace v ≡ 0
 
+-- ---- crate `steps`
+
+-- each lent list is as long as the steps of a sheet of so many bytes can be many
+pub record StepsRoom (bytes : ℕ) (kinds doors persons : List ℕ) : Type 0 where
+  pub in-kinds : mostIn bytes ≤ length kinds
+  pub in-doors : mostIn bytes ≤ length doors
+  pub in-persons : mostIn bytes ≤ length persons
+
+pub record DecodeTells (s : List ℕ) (from : ℕ) (kinds doors persons : List ℕ) : Type 0 where
+  pub number : NumberBy (13 unless StepsRoom (length s) kinds doors persons then done) (answerNo (decodedIn s from kinds doors persons .answer))
+  -- "After a refusal .. every lent list hold[s] what [it] held before."
+  pub unaltered : (decodedIn s from kinds doors persons .answer ≡ Done → ⊥)
+      → (kindsListed s from kinds doors persons ≡ kinds) × (doorsListed s from kinds doors persons ≡ doors) × (personsListed s from kinds doors persons ≡ persons)
+  -- else what the text from there says: how many steps, whether it ends behind them, and each in front of each list, the rest unaltered
+  pub decoded : decodedIn s from kinds doors persons .answer ≡ Done → (steps : Steps) → TextSaysSteps (drop from s) (steps .rows) (steps .whole)
+      → (decodedIn s from kinds doors persons .count ≡ length (steps .rows))
+      × (decodedIn s from kinds doors persons .whole ≡ steps .whole)
+      × (kindsListed s from kinds doors persons ≡ sets kinds 0 (kindsIn steps))
+      × (doorsListed s from kinds doors persons ≡ sets doors 0 (doorsIn steps))
+      × (personsListed s from kinds doors persons ≡ sets persons 0 (personsIn steps))
+
+pub record StepsAnswers : Type 0 where
+  -- a sheet is too long, has a header behind which its rows begin, or a wrong one, and is told to be exactly what it is
+  pub heading-of : (s : List ℕ) (h : Heading) → (headingOf s ≡ h) ↔ HeadingSays limit s h
+  pub decode : (s : List ℕ) (from : ℕ) (kinds doors persons : List ℕ) → DecodeTells s from kinds doors persons
+
 -- ---- crates `run_text`, `run` and `sheet_files`
 
--- a sheet that isn't too long has a header behind which its rows begin, or a wrong one
-abbrev pub HeadingTold : List ℕ → Heading → Type 0
-HeadingTold s heading.TooLong = limit < length s
-HeadingTold s heading.Wrong = length s ≤ limit
-HeadingTold s (heading.Rows from) = (length s ≤ limit) × (1 ≤ from) × (from ≤ length s)
-
 pub record RunAnswers : Type 0 where
-  pub heading-of : (s : List ℕ) → HeadingTold s (headingOf s)
   pub panel-text : (site steps out : List ℕ) → TextTells (panelText site steps) out
   pub where-text : (site steps out : List ℕ) → TextTells (whereText site steps) out
   -- the list for a sheet has a byte more than a sheet may have, so that a longer file is seen to be longer
@@ -359,4 +381,5 @@ pub record DemandOne : Type 0 where
   pub of-record : RecordAnswers
   pub of-enums : EnumAnswers
   pub of-site : SiteAnswers
+  pub of-steps : StepsAnswers
   pub of-run : RunAnswers

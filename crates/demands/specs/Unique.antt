@@ -52,7 +52,7 @@ use Rattle.granting.specs.Grants.{grantOf}
 use Rattle.granting.specs.Reasons.{firstReason}
 use Rattle.soundness.specs.SoundTest.{listsSound}
 use Rattle.record.specs.Doors.{freshRecord}
-use Rattle.phases.specs.Kinds.{kindOf}
+use Rattle.phases.specs.Kinds.{kindOf, numberOfKind}
 use Rattle.phases.specs.Table.{asked}
 use Rattle.record.specs.SoundTest.{soundB}
 use Rattle.record.specs.Steps.{First, stepOf, toldBy}
@@ -65,8 +65,11 @@ use Rattle.grammar.specs.Sizes.{limit}
 use Rattle.site_sheet.specs.Site.{siteOf, firstPlace, secondPlace}
 use Rattle.site_sheet.specs.Site as site
 use Rattle.site_sheet.specs.Gives.{Gives}
-use Rattle.run_text.specs.declared.steps.Heading.{Heading}
-use Rattle.run_text.specs.Steps.{headingOf}
+use Rattle.steps_sheet.specs.declared.Heading.{Heading}
+use Rattle.steps_sheet.specs.declared.Decoded.{Decoded}
+use Rattle.steps_sheet.specs.Says.{Steps, TextSaysSteps, HeadingSays}
+use Rattle.steps_sheet.specs.Steps.{headingOf}
+use Rattle.steps_sheet.specs.Lent.{decodedIn, kindsListed, doorsListed, personsListed}
 use Rattle.run_text.specs.Printed.{panelText, whereText, mostPanelText, mostWhereText}
 use Rattle.demands.specs.Telling.{Unique}
 use Rattle.demands.specs.Answered.{EnumUnique}
@@ -117,6 +120,7 @@ pub record RulesUnique : Type 0 where
 pub record DoorUnique : Type 0 where
   pub answer-number : (a : Answer) → Unique (λ (x : ℕ). x ≡ answerNo a)
   pub kind-of : (n : ℕ) → Unique (λ (x : Kind). x ≡ kindOf n)
+  pub kind-number : (k : Kind) → Unique (λ (x : ℕ). x ≡ numberOfKind k)
   pub allowed-in : (k : Kind) (phase : ℕ) → Unique (λ (x : Bool). x ≡ asked k phase)
   pub grants : (phase : ℕ) → Unique (λ (x : Bool). x ≡ grants phase)
   pub among : (phase holder count : List ℕ) (d : ℕ) → Unique (λ (x : Door). x ≡ doorIn phase holder count d)
@@ -184,8 +188,18 @@ pub record SiteUnique : Type 0 where
   pub verdict-place : (v : Verdict) → Unique (λ (x : ℕ). x ≡ firstPlace v)
   pub verdict-second-place : (v : Verdict) → Unique (λ (x : ℕ). x ≡ secondPlace v)
 
-pub record RunUnique : Type 0 where
+pub record StepsUnique : Type 0 where
   pub heading-of : (s : List ℕ) → Unique (λ (x : Heading). x ≡ headingOf s)
+  -- the answer, and the three lent lists at exit
+  pub decode : (s : List ℕ) (from : ℕ) (kinds doors persons : List ℕ)
+      → Unique
+      (λ (x : Decoded × List ℕ × List ℕ × List ℕ).
+      (x .0 ≡ decodedIn s from kinds doors persons)
+      × (x .1 ≡ kindsListed s from kinds doors persons)
+      × (x .2 ≡ doorsListed s from kinds doors persons)
+      × (x .3 ≡ personsListed s from kinds doors persons))
+
+pub record RunUnique : Type 0 where
   -- the answer, and the lent list at exit
   pub panel-text : (site steps out : List ℕ)
       → Unique (λ (x : Printed × List ℕ). Prints (panelText site steps) out (x .0) (x .1))
@@ -196,10 +210,12 @@ pub record RunUnique : Type 0 where
   pub blank-where-text : Unique (λ (x : List ℕ). x ≡ replicate mostWhereText 0)
 
 -- Where the papers say an answer by its conditions, not by a definition, they too allow one alone: the number and the place that
--- the table gives a site sheet, and the first reason that applies.
+-- the table gives a site sheet, the first reason that applies, and the heading and the steps of a steps sheet.
 pub record PapersUnique : Type 0 where
   pub table-of-numbers : (s : List ℕ) → Unique (Gives limit s)
   pub first-reason : (r : Record) (d p : ℕ) → Unique (First r d p)
+  pub heading : (most : ℕ) (s : List ℕ) → Unique (HeadingSays most s)
+  pub steps : (text : List ℕ) → Unique (λ (x : Steps). TextSaysSteps text (x .rows) (x .whole))
 
 pub record AnswersUnique : Type 0 where
   pub of-sheet : SheetUnique
@@ -211,5 +227,6 @@ pub record AnswersUnique : Type 0 where
   pub of-record : RecordUnique
   pub of-enums : EnumUnique
   pub of-site : SiteUnique
+  pub of-steps : StepsUnique
   pub of-run : RunUnique
   pub of-the-papers : PapersUnique

@@ -10,9 +10,10 @@ use lib.ListN.{length, getD, drop, length-append, length-drop}
 use lib.Seq.{drop-drop, drop-append-add, take-append-seam}
 use lib.Dec.{eqb}
 use borrow.Author.Tests.{eq-eqb, ne-eqb, eqb-true, le-leb}
+use Rattle.grammar.specs.declared.say.Number.{Number}
 use Rattle.grammar.specs.declared.say.Number.the-variants.{Is, None}
-use Rattle.grammar.specs.Say.{Digit, contentAt, isWord, saysWords, numberAt, ProperNumber}
-use Rattle.grammar.proofs.Saying.{same-self, same-true, proper-read, read-proper}
+use Rattle.grammar.specs.Say.{Digit, contentAt, sameBytes, isWord, saysWords, numberIn, numberAt, ProperNumber}
+use Rattle.grammar.proofs.Saying.{same-self, same-true, same-false, proper-read, read-proper}
 use Rattle.grammar.specs.declared.cut.Cell.{Cell}
 use Rattle.grammar.specs.declared.cut.Cells.{Cells}
 use Rattle.grammar.specs.Grammar.{quote, comma, Field, bare, quoted, content, escape, fieldText, Row, only, _then_, rowText, fields}
@@ -224,3 +225,27 @@ number-exact s {cell} f n h = go (tells s f h)
       (λ t. let z : None ≡ Is n = rw d at t in let y : _≡_ {A = ℕ} 0 1 = cc in absurd (omega arith)),
       (λ p. clash (sym q ∙ digits-no-quote (content f) (p .digits))),
     )
+
+-- a cell says of a word, and as a number, what its field's content does
+pub word-same : (s : List ℕ) {cell : Cell} (f : Field) (w : List ℕ) → CellHolds s cell f → holdsQuote w ≡ false → isWord s cell w ≡ sameBytes (content f) w
+unfolding isWord
+word-same s {cell} f w h n = go (tells s f h)
+  where
+    go : CellTells s cell f → isWord s cell w ≡ sameBytes (content f) w
+    go (whole d e) = rw (e, d)
+    go (with-quote d q) = rw d (sym (same-false (content f) w (λ e. clash (sym q ∙ ap holdsQuote e ∙ n))))
+
+number-none : (c : List ℕ) → holdsQuote c ≡ true → numberIn c ≡ None
+number-none c q = go (numberIn c) refl
+  where
+    go : (x : Number) → numberIn c ≡ x → x ≡ None
+    go (Is n) e = clash (sym q ∙ digits-no-quote c (read-proper c e .digits))
+    go None e = refl
+
+pub number-same : (s : List ℕ) {cell : Cell} (f : Field) → CellHolds s cell f → numberAt s cell ≡ numberIn (content f)
+unfolding numberAt
+number-same s {cell} f h = go (tells s f h)
+  where
+    go : CellTells s cell f → numberAt s cell ≡ numberIn (content f)
+    go (whole d e) = rw (e, d)
+    go (with-quote d q) = rw d (sym (number-none (content f) q))

@@ -11,7 +11,7 @@ use lib.Dec.{ltb}
 use borrow.Author.Tests.{lt-ltb, ltb-true, ltb-false}
 use Rattle.grammar.specs.declared.cut.Mode.the-variants.{Fresh}
 use Rattle.grammar.specs.declared.cut.Cells.{Cells}
-use Rattle.grammar.specs.declared.cut.RowCut.the-variants.{Cut}
+use Rattle.grammar.specs.declared.cut.RowCut.the-variants.{Cut, NoRow, Broken}
 use Rattle.grammar.specs.Grammar.{cr, lf, Row, rowText, RowAt, ended, last}
 use Rattle.grammar.specs.Cut.{emptyAt, noCells, rowFrom, cutRow}
 use Rattle.grammar.specs.Where.{cellsOf, RowHolds}
@@ -20,7 +20,8 @@ use Rattle.grammar.proofs.Written.{row-run, by-crlf, by-end}
 use Rattle.grammar.proofs.Found.{in-fresh, RowEnds, row-crlf, row-sheet, row-found}
 use Rattle.grammar.proofs.Unique.{no-row-at}
 use Rattle.grammar.proofs.Contents.{row-holds}
-use Rattle.grammar.proofs.Reading.{cut-there}
+use Rattle.grammar.proofs.Steps.{cut-within}
+use Rattle.grammar.proofs.Reading.{cut-behind, cut-there}
 
 -- a row at the front of a text is read, and the rest of the text is left
 pub row-read : {text : List ℕ} {r : Row} {rest : List ℕ} (i : ℕ) (cells : Cells) → RowAt text r rest
@@ -99,3 +100,22 @@ module _ (s : List ℕ) (at : ℕ) {cells : Cells} {next : ℕ} where
       let l : at < length s = omega arith in
       cut-ends e (λ q. let m : length s - at ≡ 0 = sym (length-drop at s) ∙ ap length q in absurd (omega arith))
       (rw (sym (cut-from s at l) ∙ e) at (row-found (drop at s) Fresh (emptyAt at) noCells at in-fresh))
+
+-- where no row is found, or a broken one
+module _ (s : List ℕ) (at : ℕ) where
+  pub no-row-end : cutRow s at ≡ NoRow → drop at s ≡ []
+  no-row-end e = go (ltb at (length s)) refl
+    where
+      go : (q : Bool) → ltb at (length s) ≡ q → drop at s ≡ []
+      go true q = absurd (rw e at (cut-within s at (ltb-true at (length s) q) refl))
+      go false q = drop-of-length-le s (ltb-false at (length s) q)
+
+  pub broken-some : {byte : ℕ} → cutRow s at ≡ Broken byte → drop at s ≡ [] → ⊥
+  broken-some {byte} e h = go (ltb at (length s)) refl
+    where
+      go : (q : Bool) → ltb at (length s) ≡ q → ⊥
+      go true q = let l = ltb-true at (length s) q in let n : length s - at ≡ 0 = sym (length-drop at s) ∙ ap length h in omega arith
+      go false q = let b = cut-behind s at (ltb-false at (length s) q) in let z : _≡_ {A = ℕ} 0 1 = cc in omega arith
+
+  pub broken-none : {byte : ℕ} → cutRow s at ≡ Broken byte → (r : Row) (rest : List ℕ) → RowAt (drop at s) r rest → ⊥
+  broken-none e r rest a = let b = row-is-cut s at a in let z : _≡_ {A = ℕ} 0 1 = cc in omega arith

@@ -1,7 +1,7 @@
 -- Words and numbers: what the loops of `say` have to know of specs/Say.antt, and that its tests are its facts.
 -- Assumes nothing.
 use Prim.Native.Nat.{ℕ, zero, suc, _+_, _-_, _*_, _^_, _≤_, _<_}
-use native.Mathlib.Nat.{pow-suc, pow-le-pow-right}
+use native.Mathlib.Nat.{pow-suc, pow-succ', pow-le-pow-right, mul-assoc, mul-le-mul-right}
 use native.Mathlib.Numerals.{add-one}
 use native.Mathlib.Omega.{arith}
 use mathlib.Core.Path.{_≡_, refl, ap₂, _∙_}
@@ -190,32 +190,32 @@ read-proper c {n} e = go₁ (eqb (length c) 0) refl
     go₁ true q = clash (rw q at e)
     go₁ false q = go₂ (ltb width (length c)) q refl
 
--- a proper number is below 1,000
-proper-small : (c : List ℕ) (n : ℕ) → ProperNumber c n → n < 1000
+-- digits behind those that make v are worth less than one more of v's last
+value-small : (v : ℕ) (c : List ℕ) → AllDigits c → valueFrom v c < (v + 1) * 10 ^ length c
 unfolding valueFrom
-proper-small [] n p = let s = p .some in absurd (omega arith)
-proper-small (a ∷ []) n p =
-    let x = p .digits 0 (omega arith) .to in
-    let v = p .value in
+value-small v [] d = omega arith
+value-small v (b ∷ c) d =
+    let to = d 0 (omega arith) .to in
+    let rest = value-small (v * 10 + (b - 48)) c (λ i h. d (suc i) (omega arith)) in
+    let fits : v * 10 + (b - 48) + 1 ≤ (v + 1) * 10 = omega arith in
+    let m = mul-le-mul-right (10 ^ length c) fits in
+    let step : (v + 1) * 10 * 10 ^ length c ≡ (v + 1) * 10 ^ length (b ∷ c) = rw pow-succ' (mul-assoc (v + 1) 10 (10 ^ length c)) in
     omega arith
-proper-small (a ∷ b ∷ []) n p =
-    let x = p .digits 0 (omega arith) .to in
-    let y = p .digits 1 (omega arith) .to in
-    let v = p .value in
-    omega arith
-proper-small (a ∷ b ∷ d ∷ []) n p =
-    let x = p .digits 0 (omega arith) .to in
-    let y = p .digits 1 (omega arith) .to in
-    let z = p .digits 2 (omega arith) .to in
-    let v = p .value in
-    omega arith
-proper-small (a ∷ b ∷ d ∷ e ∷ more) n p = let f = p .few in absurd (omega arith)
 
--- a field that is a number is one below 1,000
-pub number-small : (s : List ℕ) (cell : Cell) {n : ℕ} → numberAt s cell ≡ Is n → n < 1000
+-- so that a proper number is below 1,000: 10 to the power of its digits
+proper-small : (c : List ℕ) (n : ℕ) → ProperNumber c n → n < 10 ^ width
+proper-small c n p =
+    let v = value-small 0 c (p .digits) in
+    let z : 0 < 10 = omega arith in
+    let w : 10 ^ length c ≤ 10 ^ width = pow-le-pow-right z (p .few) in
+    let is = p .value in
+    omega arith
+
+-- and so is a field that is a number
+pub number-small : (s : List ℕ) (cell : Cell) {n : ℕ} → numberAt s cell ≡ Is n → n < 10 ^ width
 unfolding numberAt
 number-small s cell {n} e = go (cell .doubled) refl
   where
-    go : (q : Bool) → cell .doubled ≡ q → n < 1000
+    go : (q : Bool) → cell .doubled ≡ q → n < 10 ^ width
     go true q = clash (rw q at e)
     go false q = proper-small _ n (read-proper _ (rw q at e))

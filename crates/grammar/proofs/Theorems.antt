@@ -1,6 +1,6 @@
 -- The theorems of the crate `grammar`: the cutters' answers are what the grammar says.
 -- Assumes nothing.
-use Prim.Native.Nat.{ℕ, _+_, _-_, _≤_}
+use Prim.Native.Nat.{ℕ, _+_, _-_, _≤_, _<_}
 use native.Mathlib.Omega.{arith}
 use mathlib.Core.Path.{_≡_, refl, ap, _∙_}
 use mathlib.Core.Logic.{_↔_}
@@ -15,16 +15,17 @@ use Rattle.grammar.specs.declared.cut.RowCut.the-variants.{Cut, NoRow, B
 use Rattle.grammar.specs.declared.say.Number.the-variants.{Is}
 use Rattle.grammar.specs.declared.count.RowsCounted.the-variants.{All, UpTo}
 use Rattle.grammar.specs.Grammar.{comma, cr, lf, Field, content, Written, fieldText, Row, WrittenRow, rowText, RowAt, ended, Sheet, BeginsWith}
-use Rattle.grammar.specs.Say.{ProperNumber, isWord, saysWords, numberAt}
+use Rattle.grammar.specs.Say.{ProperNumber, isWord, saysWords, numberAt, placeAmong}
 use Rattle.grammar.specs.Cut.{emptyAt, noCells, fieldFrom, cutField, cutRow}
 use Rattle.grammar.specs.Where.{holdsQuote, cellOf, cellsOf, CellHolds, RowHolds}
 use Rattle.grammar.specs.Rows.{onRow, rowsFrom, countRows}
-use Rattle.grammar.specs.Meaning.{CutRow, SheetOf, BrokenAfter, FirstFault, Threefold}
+use Rattle.grammar.specs.Meaning.{CutRow, SheetOf, BrokenAfter, FirstFault, Threefold, WordAt}
 use Rattle.grammar.proofs.Written as written
 use Rattle.grammar.proofs.Found as found
 use Rattle.grammar.proofs.Unique as unique
 use Rattle.grammar.proofs.Reading as reading
 use Rattle.grammar.proofs.Contents as contents
+use Rattle.grammar.proofs.Naming as naming
 use Rattle.grammar.proofs.Exact as exact
 use Rattle.grammar.proofs.Whole as whole
 
@@ -72,6 +73,11 @@ module _ (s : List ℕ) where
   pub word-is-content : {cell : Cell} (f : Field) (word : List ℕ) → CellHolds s cell f → holdsQuote word ≡ false
       → (isWord s cell word ≡ true) ↔ (content f ≡ word)
   word-is-content f word h n = contents.word-exact s f word h n
+
+  -- A field is found at a place among words without quotes exactly when its content is the word there, and no word before it.
+  pub word-is-found : {cell : Cell} (f : Field) (words : List (List ℕ)) (n : ℕ) → CellHolds s cell f → naming.NoQuotes words → n < length words
+      → (placeAmong words s cell ≡ n) ↔ WordAt words (content f) n
+  word-is-found f words n h plain l = naming.place-exact s f words n h plain l
 
   -- A row says three words without quotes exactly when it has three fields with these contents.
   pub words-are-contents : {cells : Cells} (r : Row) (x y z : List ℕ) → RowHolds s cells r → holdsQuote x ≡ false → holdsQuote y ≡ false → holdsQuote z ≡ false

@@ -2,7 +2,7 @@
 use Prim.Native.Nat.{ℕ, _+_, _-_, _≤_, _<_}
 use mathlib.Core.Path.{_≡_}
 use mathlib.Core.List.{List, [], _∷_, _++_}
-use lib.ListN.{length, take, drop}
+use lib.ListN.{length, getD, take, drop}
 use Rattle.grammar.specs.declared.cut.Cells.{Cells}
 use Rattle.grammar.specs.declared.cut.RowCut.the-variants.{Broken}
 use Rattle.grammar.specs.Grammar.{Row, RowAt, Sheet, BeginsWith, content, fields}
@@ -50,3 +50,8 @@ pub record Threefold (r : Row) (first second third : List ℕ) : Type 0 where
   pub first-is : content (fieldOf 0 r) ≡ first
   pub second-is : content (fieldOf 1 r) ≡ second
   pub third-is : content (fieldOf 2 r) ≡ third
+
+-- a content is the word at a place, and no word before it
+pub record WordAt (words : List (List ℕ)) (c : List ℕ) (n : ℕ) : Type 0 where
+  pub is : c ≡ getD words n []
+  pub none-before : (k : ℕ) → k < n → c ≡ getD words k [] → ⊥

@@ -57,6 +57,19 @@ isWord s cell word = cond (cell .doubled) false (sameBytes (contentAt s cell) wo
 unfoldable pub numberAt : List ℕ → Cell → Number
 numberAt s cell = cond (cell .doubled) None (numberIn (contentAt s cell))
 
+-- the place of a content among some words, counted from 0; behind them all where it is none of them
+unfoldable pub placeIn : List (List ℕ) → List ℕ → ℕ
+placeIn [] c = 0
+placeIn (word ∷ words) c = cond (sameBytes c word) 0 (placeIn words c + 1)
+
+-- the same of a field; one with a doubled quote in it is no word
+unfoldable pub placeAmong : List (List ℕ) → List ℕ → Cell → ℕ
+placeAmong words s cell = cond (cell .doubled) (length words) (placeIn words (contentAt s cell))
+
+-- what the place of a field's word gives, where the words are those from place n on
+unfoldable pub namedFrom : {A : Type 0} → (ℕ → A) → ℕ → List (List ℕ) → List ℕ → Cell → A
+namedFrom f n words s cell = f (n + placeAmong words s cell)
+
 -- a row of three fields, and they are these words
 unfoldable pub saysWords : List ℕ → Cells → List ℕ → List ℕ → List ℕ → Bool
 saysWords s cells first second third =

@@ -31,7 +31,7 @@ pub enum Kind {
 }
 
 // How many steps there are: the length of a row of the table.
-const STEPS: usize = 10;
+const STEPS: u8 = 10;
 
 // Which step each phase allows: a row for each phase, and in it an entry for each of card, decide,
 // green, red, walk, tick, passed, lapsed, dark, ack.
@@ -168,8 +168,8 @@ impl Kind {
         }
     }
 
-    // The number of this step: its place in a row of the table.
-    fn number(self) -> usize
+    // The number of this step, as `of` names it: its place in a row of the table.
+    pub fn number(self) -> u8
         ensures { λ r. ⌜ r ≡ numberOfKind self ⌝ }
     {
         match self {
@@ -198,6 +198,6 @@ impl Kind {
         if Phase::CLOSED < phase {
             return false;
         }
-        ALLOWED[phase as usize * STEPS + step]
+        ALLOWED[phase as usize * STEPS as usize + step as usize]
     }
 }

@@ -19,7 +19,6 @@ use Rattle.record.specs.declared.steps.Deed.{Deed}
 use Rattle.record.specs.declared.steps.Step.{Step}
 use Rattle.phases.specs.Phase.{closed}
 use Rattle.record.specs.Doors.{doorOf}
-use Rattle.phases.specs.Kinds.{namesPerson}
 use Rattle.phases.specs.Table.{asked}
 use Rattle.record.specs.Sound.{Sound}
 use Rattle.door.specs.Does.{effect}
@@ -53,20 +52,6 @@ same-effect Lapsed p q why reason c person is = refl
 same-effect Dark p q why reason c person is = refl
 same-effect Ack p q why reason c person is = refl
 same-effect Unknown p q why reason c person is = refl
-
--- every other step names no person
-pub others-name-none : (k : Kind) → (k ≡ Card → ⊥) → namesPerson k ≡ false
-others-name-none Card ne = absurd (ne refl)
-others-name-none Decide ne = refl
-others-name-none Green ne = refl
-others-name-none Red ne = refl
-others-name-none Walk ne = refl
-others-name-none Tick ne = refl
-others-name-none Passed ne = refl
-others-name-none Lapsed ne = refl
-others-name-none Dark ne = refl
-others-name-none Ack ne = refl
-others-name-none Unknown ne = refl
 
 -- the person of a card that exists
 pub card-person : (people doors : ℕ) (k : Kind) (d p : ℕ) (e : Bool) → ((t : Record) → t .people ≡ people → t .doors ≡ doors → e ≡ exist t k d p)

@@ -8,13 +8,14 @@ ghost use lib.Seq.{sets};
 ghost use Rattle.record.specs.SoundTest.{soundB};
 ghost use Rattle.record.specs.Run.{repliesOf, answerTold, phaseTold, reasonTold};
 ghost use Rattle.grammar.specs.Sizes.{limit};
-ghost use Rattle.run_text.specs.Steps.{stepsFrom, rowsIn, mostSteps};
+ghost use Rattle.steps_sheet.specs.Steps.{stepsFrom};
+ghost use Rattle.steps_sheet.specs.Lent.{mostSteps};
 ghost use Rattle.run_text.specs.Printed.{servedOf};
 use crate::blank::blank_bytes;
 use crate::blank::blank_numbers;
-use crate::steps::decode;
 use record::record::Record;
 use run_text::serve::Served;
+use steps::decode;
 
 // Runs the steps of the rows from a position on.
 pub(crate) fn serve<'a>(
@@ -30,9 +31,9 @@ pub(crate) fn serve<'a>(
     requires { ⌜ (mostSteps ≤ length (now answers)) × (mostSteps ≤ length (now phases)) × (mostSteps ≤ length (now reasons)) ⌝ }
     ensures served { λ r. ⌜ r ≡ servedOf fresh (stepsFrom (now (s .entry)) from) ⌝ }
     ensures few { λ r. ⌜ r .count ≤ mostSteps ⌝ }
-    ensures answers { λ _. ⌜ now (answers .exit) ≡ sets (now (answers .entry)) 0 (map answerTold (repliesOf fresh (rowsIn (stepsFrom (now (s .entry)) from)))) ⌝ }
-    ensures phases { λ _. ⌜ now (phases .exit) ≡ sets (now (phases .entry)) 0 (map phaseTold (repliesOf fresh (rowsIn (stepsFrom (now (s .entry)) from)))) ⌝ }
-    ensures reasons { λ _. ⌜ now (reasons .exit) ≡ sets (now (reasons .entry)) 0 (map reasonTold (repliesOf fresh (rowsIn (stepsFrom (now (s .entry)) from)))) ⌝ }
+    ensures answers { λ _. ⌜ now (answers .exit) ≡ sets (now (answers .entry)) 0 (map answerTold (repliesOf fresh (stepsFrom (now (s .entry)) from .rows))) ⌝ }
+    ensures phases { λ _. ⌜ now (phases .exit) ≡ sets (now (phases .entry)) 0 (map phaseTold (repliesOf fresh (stepsFrom (now (s .entry)) from .rows))) ⌝ }
+    ensures reasons { λ _. ⌜ now (reasons .exit) ≡ sets (now (reasons .entry)) 0 (map reasonTold (repliesOf fresh (stepsFrom (now (s .entry)) from .rows))) ⌝ }
 {
     let mut kinds = blank_bytes();
     let mut doors = blank_numbers();

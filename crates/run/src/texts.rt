@@ -10,15 +10,15 @@ ghost use Rattle.record.specs.Run.{lastOf};
 ghost use Rattle.grammar.specs.Sizes.{limit};
 ghost use Rattle.text.specs.Wrote.{Wrote};
 ghost use Rattle.text.specs.Printed.{Prints};
-ghost use Rattle.run_text.specs.Steps.{headingOf, stepsFrom, rowsIn};
+ghost use Rattle.steps_sheet.specs.Steps.{headingOf, stepsFrom};
 ghost use Rattle.run_text.specs.Printed.{answerRows, repliesFrom, runText, aloneText, ranText, stepsText, panelText};
 ghost use Rattle.run_text.specs.Printed.{placesText, recordText, lastRecord, whereText};
 use crate::blank::blank_bytes;
 use crate::serve::serve;
-use crate::steps::heading_of;
 use record::record::Record;
-use run_text::steps::Heading;
 use site::read::read_site;
+use steps::heading_of;
+use steps_sheet::Heading;
 use text::printed::Printed;
 use text::write::put_bytes;
 use text::write::put_row;
@@ -197,7 +197,7 @@ fn print_record(r: Record, out: &mut [u8]) -> Printed
 fn record_after(fresh: Record, s: &[u8], from: usize) -> Record
     requires { ⌜ soundB fresh ≡ true ⌝ }
     requires { ⌜ length (now s) ≤ limit ⌝ }
-    ensures { λ r. ⌜ r ≡ lastOf fresh (rowsIn (stepsFrom (now (s .entry)) from)) ⌝ }
+    ensures { λ r. ⌜ r ≡ lastOf fresh (stepsFrom (now (s .entry)) from .rows) ⌝ }
 {
     let mut answers = blank_bytes();
     let mut phases = blank_bytes();

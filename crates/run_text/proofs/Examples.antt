@@ -13,6 +13,8 @@ use Rattle.tables.specs.Way.{unlessOutside, wayOut, unvisited, wayOf}
 use Rattle.text.specs.Text.{digits, decimal, rowOfNumbers}
 use Rattle.record.specs.declared.record.Record.{Record}
 use Rattle.record.specs.declared.steps.Step.{Step}
+use Rattle.phases.specs.declared.table.Kind.{Kind}
+use Rattle.phases.specs.declared.table.Kind.the-variants.{Card, Decide, Green, Red, Walk, Passed}
 use Rattle.phases.specs.Phase.{grants}
 use Rattle.record.specs.Doors.{Shaped, zeros, freshRecord}
 use Rattle.phases.specs.Kinds.{StepRow, kindOf, allows}
@@ -21,11 +23,11 @@ use Rattle.record.specs.Sound.{Sound}
 use Rattle.door.specs.Does.{effect}
 use Rattle.granting.specs.Reasons.{firstReason}
 use Rattle.record.specs.Steps.{act, exist, soundStep}
-use Rattle.record.specs.Run.{Reply, replyBy, rowOf, rowsOf, lastOf, repliesOf}
+use Rattle.record.specs.Run.{Reply, replyBy, rowOf, lastOf, repliesOf}
 use Rattle.record.proofs.Laws.{sound-steps, sound-stays, shaped-stays}
 use Rattle.grammar.specs.Cut.{bareMove, shutMove, moveOf, endOf, fieldFrom, pushed, rowFrom, cutRow}
 use Rattle.grammar.specs.Rows.{readRows, rowsFrom}
-use Rattle.grammar.specs.Say.{valueFrom, digitsFrom, needlessZero, numberIn, contentAt, sameBytes, isWord, saysWords, numberAt}
+use Rattle.grammar.specs.Say.{valueFrom, digitsFrom, needlessZero, numberIn, contentAt, sameBytes, isWord, placeIn, placeAmong, namedFrom, saysWords, numberAt}
 use Rattle.site_sheet.specs.declared.SiteRead.{SiteRead}
 use Rattle.site_sheet.specs.Accepted.{AcceptedRecord}
 use Rattle.verdict.specs.declared.Verdict.the-variants.{Accepted, NoSite}
@@ -34,9 +36,10 @@ use Rattle.site_sheet.specs.Line as site
 use Rattle.site_sheet.specs.Site.{linesIn, readLines, judged, settled, afterHeader, siteAt, siteOf, refusedSite}
 use Rattle.grammar.specs.Sizes.{limit}
 use Rattle.site_sheet.proofs.Theorems.{accepted-holds}
-use Rattle.run_text.specs.declared.steps.Heading.{Heading}
-use Rattle.run_text.specs.declared.steps.Heading.the-variants.{Wrong, Rows}
-use Rattle.run_text.specs.Steps.{Steps, placeAmong, kindAt, personAt, stepsLineAt, stepsHeaderAt, headingOf, stepsIn, stepsFrom, rowsIn}
+use Rattle.steps_sheet.specs.declared.Heading.{Heading}
+use Rattle.steps_sheet.specs.declared.Heading.the-variants.{Wrong, Rows}
+use Rattle.steps_sheet.specs.Says.{Steps}
+use Rattle.steps_sheet.specs.Steps.{personAt, stepsLineAt, stepsHeaderAt, headingAt, headingOf, stepsIn, stepsFrom}
 use Rattle.run_text.specs.Printed.{answerRows, runText, aloneText, ranText, stepsText, panelText, placeRows, placesText, recordText, lastRecord, whereText}
 use Rattle.run_text.proofs.Sheets.{panel-refused, where-refused, panel-is, where-is}
 use Rattle.run_text.specs.Examples.{siteHeader, siteSheet, stepsSheet, panelTop, whereTop, four, two, panelOf01, badRow, Examples}
@@ -78,24 +81,31 @@ site-of-01 =
     (set (set (set (replicate (mostPeople * mostLocations) false) 1 true) 2 true) (mostLocations + 1) true)
 
 sites : (siteOf siteSheet ≡ record { verdict = Accepted; «record» = site-of-01 }) × (siteOf siteHeader ≡ refusedSite NoSite)
-unfolding bareMove shutMove moveOf endOf fieldFrom pushed rowFrom cutRow readRows rowsFrom valueFrom digitsFrom needlessZero numberIn contentAt sameBytes isWord saysWords numberAt orAt leastBelow withLocation locationOf leastPair someBelow orElse andAlso mayBe lacksExit firstNoExit strays firstStray joins lacksDoor firstNoDoor lacksRight firstNoRight letsIn shutOut firstShutOut unlessOutside wayOut unvisited wayOf unmarked siteRowFits takeSite doorRowFits takeDoor exitRowFits takeExit rightRowFits takeRight takeLine site.wordOf site.siteLineAt site.siteHeaderAt linesIn readLines judged settled afterHeader siteAt zeros
+unfolding bareMove shutMove moveOf endOf fieldFrom pushed rowFrom cutRow readRows rowsFrom valueFrom digitsFrom needlessZero numberIn contentAt sameBytes isWord saysWords numberAt orAt leastBelow withLocation locationOf leastPair someBelow orElse andAlso mayBe lacksExit firstNoExit strays firstStray joins lacksDoor firstNoDoor lacksRight firstNoRight letsIn shutOut firstShutOut unlessOutside wayOut unvisited wayOf unmarked siteRowFits takeSite doorRowFits takeDoor exitRowFits takeExit rightRowFits takeRight takeLine placeIn placeAmong namedFrom site.wordNamed site.siteLineAt site.siteHeaderAt linesIn readLines judged settled afterHeader siteAt zeros
 sites = (refl, refl)
+
+abbrev step : Kind → ℕ → StepRow
+step kind door = record { kind = kind; at = door; person = 0 }
 
 stepsOf01 : Steps
 stepsOf01 =
     record {
-      kinds = 0 ∷ 1 ∷ 2 ∷ 4 ∷ 0 ∷ 1 ∷ 6 ∷ 3 ∷ 1 ∷ 0 ∷ [];
-      doors = 0 ∷ 0 ∷ 0 ∷ 0 ∷ 1 ∷ 1 ∷ 0 ∷ 1 ∷ 0 ∷ 9 ∷ [];
-      persons = 0 ∷ 0 ∷ 0 ∷ 0 ∷ 0 ∷ 0 ∷ 0 ∷ 0 ∷ 0 ∷ 0 ∷ [];
+      rows =
+          step Card 0 ∷ step Decide 0 ∷ step Green 0 ∷ step Walk 0 ∷ step Card 1 ∷ step Decide 1 ∷ step Passed 0 ∷ step Red 1 ∷ step Decide 0
+          ∷ step Card 9 ∷ [];
       whole = true;
     }
 
+-- one card, and then a row of bad form
+oneCard : Steps
+oneCard = record { rows = step Card 0 ∷ []; whole = false }
+
 headings : (headingOf stepsSheet ≡ Rows 18) × (headingOf badRow ≡ Rows 18) × (headingOf [] ≡ Wrong)
-unfolding bareMove shutMove moveOf endOf pushed rowFrom cutRow contentAt sameBytes isWord saysWords stepsHeaderAt headingOf
+unfolding bareMove shutMove moveOf endOf pushed rowFrom cutRow contentAt sameBytes isWord saysWords stepsHeaderAt headingAt
 headings = (refl, refl, refl)
 
-steps : (stepsFrom stepsSheet 18 ≡ stepsOf01) × (stepsFrom badRow 18 ≡ record { kinds = 0 ∷ []; doors = 0 ∷ []; persons = 0 ∷ []; whole = false })
-unfolding bareMove shutMove moveOf endOf pushed rowFrom cutRow readRows rowsFrom valueFrom digitsFrom needlessZero numberIn contentAt sameBytes isWord numberAt placeAmong kindAt personAt stepsLineAt stepsIn stepsOf01
+steps : (stepsFrom stepsSheet 18 ≡ stepsOf01) × (stepsFrom badRow 18 ≡ oneCard)
+unfolding bareMove shutMove moveOf endOf pushed rowFrom cutRow readRows rowsFrom valueFrom digitsFrom needlessZero numberIn contentAt sameBytes isWord numberAt placeIn placeAmong namedFrom kindOf personAt stepsLineAt stepsIn stepsOf01 oneCard
 steps = (refl, refl)
 
 -- ---- the steps, run
@@ -117,19 +127,19 @@ where-here s e = sym (where-is siteSheet s (sym (sites .0)) refl refl e)
 
 -- the text of a run, its steps computed
 soundRan : Steps → List ℕ
-soundRan x = runText (soundReplies site-of-01 (rowsIn x)) (x .whole)
+soundRan x = runText (soundReplies site-of-01 (x .rows)) (x .whole)
 
 sound-ran : (x : Steps) → ranText site-of-01 x ≡ soundRan x
 unfolding soundRan
-sound-ran x = rw (sound-replies (rowsIn x) site-of-01 shaped sound)
+sound-ran x = rw (sound-replies (x .rows) site-of-01 shaped sound)
 
 panel-ran : (s : List ℕ) {x : Steps} → headingOf s ≡ Rows 18 → stepsFrom s 18 ≡ x → panelText siteSheet s ≡ soundRan x
 panel-ran s e f = panel-here s e ∙ ap (ranText site-of-01) f ∙ sound-ran _
 
 texts : (soundRan stepsOf01 ≡ panelOf01)
-    × (soundRan (record { kinds = 0 ∷ []; doors = 0 ∷ []; persons = 0 ∷ []; whole = false }) ≡ panelTop (four 1 0 1 0 (four 2 2 0 0 [])))
-    × (recordText (soundLast site-of-01 (rowsIn stepsOf01)) ≡ whereTop (two 0 1 (two 1 0 [])))
-unfolding soundRan soundReplies soundLast stepsOf01 soundStep firstReason effect act exist allows hasGrant grantOf leastBelow orAt grantsTo grants mayBe andAlso orElse zeros rowsOf kindOf runText answerRows placeRows placesText rowOfNumbers decimal digits
+    × (soundRan oneCard ≡ panelTop (four 1 0 1 0 (four 2 2 0 0 [])))
+    × (recordText (soundLast site-of-01 (stepsOf01 .rows)) ≡ whereTop (two 0 1 (two 1 0 [])))
+unfolding soundRan soundReplies soundLast stepsOf01 oneCard soundStep firstReason effect act exist allows hasGrant grantOf leastBelow orAt grantsTo grants mayBe andAlso orElse zeros runText answerRows placeRows placesText rowOfNumbers decimal digits
 texts = (refl, refl, refl)
 
 alone : (aloneText 2 ≡ panelTop (four 0 2 0 0 [])) × (aloneText 5 ≡ panelTop (four 0 5 0 0 [])) × (placesText [] ≡ whereTop []) × (recordText site-of-01 ≡ whereTop (two 0 0 (two 1 0 [])))
@@ -144,8 +154,8 @@ examples =
     record {
       panel-of-01 = panel-ran stepsSheet (headings .0) (steps .0) ∙ texts .0;
       where-of-01 =
-          where-here stepsSheet (headings .0) ∙ ap (λ (x : Steps). recordText (lastOf site-of-01 (rowsIn x))) (steps .0)
-          ∙ ap recordText (sound-last (rowsIn stepsOf01) site-of-01 shaped sound) ∙ texts .2;
+          where-here stepsSheet (headings .0) ∙ ap (λ (x : Steps). recordText (lastOf site-of-01 (x .rows))) (steps .0)
+          ∙ ap recordText (sound-last (stepsOf01 .rows) site-of-01 shaped sound) ∙ texts .2;
       bad-row = panel-ran badRow (headings .1) (steps .1) ∙ texts .1;
       wrong-header = panel-here [] (headings .2) ∙ alone .0;
       wrong-header-where = where-here [] (headings .2) ∙ alone .3;

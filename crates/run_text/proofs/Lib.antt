@@ -1,6 +1,5 @@
--- What is proved of the crate: `Decoding` a steps sheet's rows, `Serving` the run of its steps, `Texts` the rows of the two
+-- What is proved of the crate: `Serving` the run of a steps sheet's steps, `Texts` the rows of the two
 -- texts, written one behind the other, `Sheets` which text the two sheets have.
-pub mod Decoding
 pub mod Serving
 pub mod Texts
 pub mod Sheets

@@ -1,13 +1,10 @@
 -- The two texts by what the two sheets are: a refused site, a long or wrongly headed steps sheet, a run. Assumes nothing.
-use Prim.Native.Nat.{ℕ, _≤_, _<_}
+use Prim.Native.Nat.{ℕ, _≤_}
 use mathlib.Core.Path.{_≡_, refl, sym, ap, _∙_}
-use mathlib.Core.Bool.{Bool, true, false, cond}
+use mathlib.Core.Bool.{true}
 use mathlib.Core.List.{List, []}
 use native.Mathlib.Omega.{arith}
-use borrow.Author.Tests.{ne-eqb, lt-ltb, ltb-true, ltb-false}
-use lib.Dec.{ltb}
-use lib.ListN.{length}
-use Rattle.grammar.specs.Cut.{cutRow}
+use borrow.Author.Tests.{ne-eqb}
 use Rattle.tables.specs.Tables.{Plan, mostPeople}
 use Rattle.record.specs.Run.{lastOf}
 use Rattle.phases.specs.Kinds.{StepRow}
@@ -21,9 +18,9 @@ use Rattle.site_sheet.specs.Site.{siteOf, verdictNo}
 use Rattle.grammar.specs.Sizes.{limit}
 use Rattle.site_sheet.specs.Accepted.{AcceptedRecord}
 use Rattle.site_sheet.proofs.Theorems.{accepted-holds, accepted-people}
-use Rattle.run_text.specs.declared.steps.Heading.{Heading}
-use Rattle.run_text.specs.declared.steps.Heading.the-variants as heading
-use Rattle.run_text.specs.Steps.{headed, headingOf}
+use Rattle.steps_sheet.specs.declared.Heading.{Heading}
+use Rattle.steps_sheet.specs.declared.Heading.the-variants as heading
+use Rattle.steps_sheet.specs.Steps.{headingOf}
 use Rattle.run_text.specs.Printed.{aloneText, stepsText, panelText, recordText, lastRecord, placesText, whereText}
 
 -- only an accepted sheet has the number 0
@@ -39,19 +36,6 @@ zero-accepted (Stray l) e = absurd (omega arith)
 zero-accepted (NoDoor l) e = absurd (omega arith)
 zero-accepted (NoRight p l) e = absurd (omega arith)
 zero-accepted (ShutOut p) e = absurd (omega arith)
-
--- a steps sheet over the limit is told to be too long
-pub long-told : (s : List ℕ) → limit < length s → headingOf s ≡ heading.TooLong
-unfolding headingOf
-long-told s h = ap (λ (b : Bool). cond b heading.TooLong (headed s (cutRow s 0))) (lt-ltb limit (length s) h)
-
--- a sheet with a header behind which rows begin isn't too long
-pub headed-short : (s : List ℕ) {from : ℕ} → headingOf s ≡ heading.Rows from → length s ≤ limit
-headed-short s {from} e = go (ltb limit (length s)) refl
-  where
-    go : (q : Bool) → ltb limit (length s) ≡ q → length s ≤ limit
-    go true q = let z : heading.TooLong ≡ heading.Rows from = sym (long-told s (ltb-true limit (length s) q)) ∙ e in let n : _≡_ {A = ℕ} 0 1 = cc in absurd (omega arith)
-    go false q = ltb-false limit (length s) q
 
 module _ (site steps : List ℕ) {read : SiteRead} {n : ℕ} (is : read ≡ siteOf site) (number : n ≡ verdictNo (read .verdict)) where
   number-is : verdictNo (siteOf site .verdict) ≡ n

@@ -4,7 +4,7 @@ use Prim.Native.Nat.{ℕ, _+_}
 use mathlib.Core.Path.{_≡_}
 use mathlib.Core.List.{List, [], _∷_, _++_}
 use Rattle.site_sheet.specs.Line.{siteWord, doorWord, exitWord, rightWord, kindHead, aHead, bHead}
-use Rattle.run_text.specs.Steps.{cardWord, decideWord, greenWord, redWord, walkWord, passedWord, stepHead, personHead}
+use Rattle.steps_sheet.specs.Words.{cardWord, decideWord, greenWord, redWord, walkWord, passedWord, stepHead, personHead}
 use Rattle.run_text.specs.Printed.{panelText, whereText}
 
 -- a row in bytes: three fields with commas (44) between, and CRLF (13, 10)

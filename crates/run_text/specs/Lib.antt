@@ -1,4 +1,3 @@
--- What the promises of the crate `run` mean: `Steps` what a steps sheet says, `Printed` the two texts.
-pub mod Steps
+-- What the promises of the crate `run` mean: `Printed` the two texts, `Examples` the run that 01 prints.
 pub mod Printed
 pub mod Examples

@@ -9,10 +9,11 @@ use Rattle.record.specs.declared.record.Record.{Record}
 use Rattle.record.specs.Run.{Reply, lastOf, repliesOf}
 use Rattle.site_sheet.specs.declared.SiteRead.{SiteRead}
 use Rattle.site_sheet.specs.Site.{siteOf, verdictNo}
-use Rattle.run_text.specs.declared.steps.Heading.{Heading}
-use Rattle.run_text.specs.declared.steps.Heading.the-variants.{TooLong, Wrong, Rows}
+use Rattle.steps_sheet.specs.declared.Heading.{Heading}
+use Rattle.steps_sheet.specs.declared.Heading.the-variants.{TooLong, Wrong, Rows}
+use Rattle.steps_sheet.specs.Says.{Steps}
+use Rattle.steps_sheet.specs.Steps.{headingOf, stepsFrom}
 use Rattle.run_text.specs.declared.serve.Served.{Served}
-use Rattle.run_text.specs.Steps.{Steps, headingOf, stepsFrom, rowsIn}
 
 -- "the header `row,answer,phase,reason`"
 abbrev pub panelHeader : List ℕ
@@ -54,11 +55,11 @@ aloneText number = panelHeader ++ panelRow 0 number 0 0
 
 -- the record after the steps of a sheet, how many there were, and whether the sheet ends behind them
 abbrev pub servedOf : Record → Steps → Served
-servedOf r steps = record { next = lastOf r (rowsIn steps); count = length (steps .kinds); whole = steps .whole }
+servedOf r steps = record { next = lastOf r (steps .rows); count = length (steps .rows); whole = steps .whole }
 
 -- the steps of a sheet, run from a record and printed
 abbrev pub ranText : Record → Steps → List ℕ
-ranText r steps = runText (repliesOf r (rowsIn steps)) (steps .whole)
+ranText r steps = runText (repliesOf r (steps .rows)) (steps .whole)
 
 -- "A wrong header is `0,2,0,0`, a long steps sheet `0,1,0,0`"
 abbrev pub stepsText : Record → List ℕ → Heading → List ℕ
@@ -91,7 +92,7 @@ recordText r = placesText (take (r .people) (r .place))
 abbrev pub lastRecord : Record → List ℕ → Heading → Record
 lastRecord r steps TooLong = r
 lastRecord r steps Wrong = r
-lastRecord r steps (Rows from) = lastOf r (rowsIn (stepsFrom steps from))
+lastRecord r steps (Rows from) = lastOf r (stepsFrom steps from .rows)
 
 -- "with a refused site sheet it prints only the header"
 abbrev pub siteWhere : SiteRead → List ℕ → List ℕ

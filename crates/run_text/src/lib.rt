@@ -5,4 +5,3 @@
 // answers with.
 pub mod blank;
 pub mod serve;
-pub mod steps;

@@ -33,7 +33,7 @@ use Rattle.site_sheet.specs.declared.SiteRead.{SiteRead}
 use Rattle.site_sheet.specs.Line.{siteHeaderAt}
 use Rattle.site_sheet.specs.Draft.{blankDraft, planIn}
 use Rattle.site_sheet.specs.Site.{verdictOf, linesIn, readLines, acceptedSite, judged, settled, afterHeader, siteAt}
-use Rattle.site_sheet.specs.Says.{HeaderRow, LineInRange, site-range, door-range, exit-range, right-range, NotFirst, door-first, exit-first, right-first, Fine, Wrong, of-form, no-site, out-of-range, said-again}
+use Rattle.site_sheet.specs.Says.{SiteHeaderRow, LineInRange, site-range, door-range, exit-range, right-range, NotFirst, door-first, exit-first, right-first, Fine, Wrong, of-form, no-site, out-of-range, said-again}
 use Rattle.site_sheet.specs.Gives.{Headed, FineLines, one-fine, WrongAt, here, further, draftAfter, Tabled, Six, Seven, Eight, Nine, Ten, Obeys, Gives, gives-0, gives-1, gives-header, gives-row, gives-5, gives-6, gives-7, gives-8, gives-9, gives-10}
 use Rattle.site_sheet.proofs.Held.{Held, Ranged, held-blank}
 use Rattle.site_sheet.proofs.Outcome.{fine}
@@ -133,7 +133,7 @@ module _ (most : ℕ) (s : List ℕ) where
           rw (e, q, ne-eqb _ 0 z, t .tables)
       go (stopped k f w e n q) = absurd (all-not-wrong (t .fine) w)
 
-  header-given : (cut : RowCut) → cutRow s 0 ≡ cut → ((r : Row) (rest : List ℕ) → RowAt s r rest → HeaderRow r → ⊥) → afterHeader s cut .verdict ≡ BadRow 0
+  header-given : (cut : RowCut) → cutRow s 0 ≡ cut → ((r : Row) (rest : List ℕ) → RowAt s r rest → SiteHeaderRow r → ⊥) → afterHeader s cut .verdict ≡ BadRow 0
   unfolding afterHeader
   header-given (Cut cells next) e n =
       let c = cut-is-row s 0 e in

@@ -1,37 +1,33 @@
 -- What a row says, worked out from its fields' contents: the cells of a row say the same, and the relation `SaysSo` too.
 -- Assumes nothing.
-use Prim.Native.Nat.{ℕ}
+use Prim.Native.Nat.{ℕ, zero, suc, _<_}
 use native.Mathlib.Omega.{arith}
-use mathlib.Core.Path.{_≡_, refl, sym, ap, _∙_}
+use mathlib.Core.Path.{_≡_, refl, sym}
 use mathlib.Core.Bool.{Bool, true, false, cond, true≢false}
-use mathlib.Core.List.{List}
-use lib.ListN.{length}
+use mathlib.Core.List.{List, []}
+use lib.ListN.{length, getD}
 use lib.Dec.{eqb}
 use borrow.Author.Tests.{eq-eqb, eqb-true, eqb-false}
-use Rattle.tables.proofs.Laws.{clash}
 use Rattle.tables.proofs.Cases.{either}
-use Rattle.grammar.specs.declared.cut.Cell.{Cell}
 use Rattle.grammar.specs.declared.cut.Cells.{Cells}
 use Rattle.grammar.specs.declared.say.Number.{Number}
 use Rattle.grammar.specs.declared.say.Number.the-variants as number
-use Rattle.grammar.specs.Grammar.{Row, Field, content, fields}
-use Rattle.grammar.specs.Where.{holdsQuote, fieldOf, CellHolds, RowHolds}
-use Rattle.grammar.specs.Say.{ProperNumber, sameBytes, isWord, saysWords, numberIn, numberAt}
-use Rattle.grammar.proofs.Saying.{same-self, same-true, same-false, proper-read, read-proper}
-use Rattle.grammar.proofs.Contents.{CellTells, whole, with-quote, tells, both-true, digits-no-quote}
+use Rattle.grammar.specs.Grammar.{Row, content, fields}
+use Rattle.grammar.specs.Where.{holdsQuote, fieldOf, RowHolds}
+use Rattle.grammar.specs.Say.{ProperNumber, sameBytes, isWord, saysWords, numberIn, numberAt, placeIn}
+use Rattle.grammar.proofs.Saying.{same-true, proper-read, read-proper}
+use Rattle.grammar.proofs.Contents.{both-true, word-same, number-same}
+use Rattle.grammar.proofs.Naming.{none, more, by-place, named-same}
 use Rattle.site_sheet.specs.declared.Word.{Word}
-use Rattle.site_sheet.specs.declared.Word.the-variants as word
 use Rattle.site_sheet.specs.declared.SiteLine.{SiteLine}
 use Rattle.site_sheet.specs.declared.SiteLine.the-variants.{Site, Door, Exit, Right, Bad}
-use Rattle.site_sheet.specs.Line.{siteWord, doorWord, exitWord, rightWord, kindHead, aHead, bHead, wordOf, siteLineWith, siteLineOf, siteLineAt, siteHeaderAt}
-use Rattle.site_sheet.specs.Says.{Three, SiteKind, site-kind, door-kind, exit-kind, right-kind, SaysSo, a-site, a-door, an-exit, a-right, bad-form, HeaderRow}
+use Rattle.site_sheet.specs.Line.{siteWord, doorWord, exitWord, rightWord, kindHead, aHead, bHead, siteWords, wordNamed, wordOf, siteLineWith, siteLineOf, siteLineAt, siteHeaderAt}
+use Rattle.site_sheet.specs.Says.{Three, SiteKind, site-kind, door-kind, exit-kind, right-kind, SaysSo, a-site, a-door, an-exit, a-right, bad-form, SiteHeaderRow}
 
 -- ---- by contents
 
 pub wordIn : List ℕ → Word
-wordIn c =
-    cond (sameBytes c siteWord) word.Site
-    (cond (sameBytes c doorWord) word.Door (cond (sameBytes c exitWord) word.Exit (cond (sameBytes c rightWord) word.Right word.Unknown)))
+wordIn c = wordNamed (placeIn siteWords c)
 
 unfoldable pub lineFrom : Row → SiteLine
 lineFrom r = cond (eqb (length (fields r)) 3) (siteLineOf (wordIn (content (fieldOf 0 r))) (numberIn (content (fieldOf 1 r))) (numberIn (content (fieldOf 2 r)))) Bad
@@ -43,39 +39,12 @@ headerFrom r =
 
 -- ---- the cells of a row say what its contents do
 
-word-same : (s : List ℕ) {cell : Cell} (f : Field) (w : List ℕ) → CellHolds s cell f → holdsQuote w ≡ false → isWord s cell w ≡ sameBytes (content f) w
-unfolding isWord
-word-same s {cell} f w h n = go (tells s f h)
-  where
-    go : CellTells s cell f → isWord s cell w ≡ sameBytes (content f) w
-    go (whole d e) = rw (e, d)
-    go (with-quote d q) = rw d (sym (same-false (content f) w (λ e. clash q (ap holdsQuote e ∙ n))))
-
-number-none : (c : List ℕ) → holdsQuote c ≡ true → numberIn c ≡ number.None
-number-none c q = go (numberIn c) refl
-  where
-    go : (x : Number) → numberIn c ≡ x → x ≡ number.None
-    go (number.Is n) e = clash q (digits-no-quote c (read-proper c e .digits))
-    go number.None e = refl
-
-number-same : (s : List ℕ) {cell : Cell} (f : Field) → CellHolds s cell f → numberAt s cell ≡ numberIn (content f)
-unfolding numberAt
-number-same s {cell} f h = go (tells s f h)
-  where
-    go : CellTells s cell f → numberAt s cell ≡ numberIn (content f)
-    go (whole d e) = rw (e, d)
-    go (with-quote d q) = rw d (sym (number-none (content f) q))
-
 module _ (s : List ℕ) {cells : Cells} (r : Row) (h : RowHolds s cells r) where
   words-same : wordOf s (cells .first) ≡ wordIn (content (fieldOf 0 r))
-  unfolding wordOf wordIn holdsQuote
+  unfolding wordIn holdsQuote
   words-same =
-      rw (
-        word-same s (fieldOf 0 r) siteWord (h .first) refl,
-        word-same s (fieldOf 0 r) doorWord (h .first) refl,
-        word-same s (fieldOf 0 r) exitWord (h .first) refl,
-        word-same s (fieldOf 0 r) rightWord (h .first) refl,
-      )
+      named-same wordNamed s (fieldOf 0 r) siteWords (h .first)
+      (more {word = siteWord} refl (more {word = doorWord} refl (more {word = exitWord} refl (more {word = rightWord} refl none))))
 
   pub line-same : siteLineAt s cells ≡ lineFrom r
   unfolding siteLineAt lineFrom
@@ -113,24 +82,23 @@ module _ (r : Row) where
   c₂ : List ℕ
   c₂ = content (fieldOf 2 r)
 
-  no-bytes : {c w : List ℕ} → sameBytes c w ≡ false → c ≡ w → ⊥
-  no-bytes {c} {w} n e = true≢false (sym (same-self w) ∙ (rw e at n))
-
   -- three fields, two numbers: the word decides
   by-word : (a b : ℕ) → length (fields r) ≡ 3 → ProperNumber c₁ a → ProperNumber c₂ b → SaysSo r (siteLineWith (wordIn c₀) a b)
-  unfolding wordIn c₀ c₁ c₂
-  by-word a b n x y =
-      either (λ w. SaysSo r (siteLineWith w a b)) (sameBytes c₀ siteWord) (λ e. a-site (record { three = n; first = same-true c₀ siteWord e; second = x; third = y }))
-      (λ n₁. either (λ w. SaysSo r (siteLineWith w a b)) (sameBytes c₀ doorWord) (λ e. a-door (record { three = n; first = same-true c₀ doorWord e; second = x; third = y }))
-      (λ n₂. either (λ w. SaysSo r (siteLineWith w a b)) (sameBytes c₀ exitWord) (λ e. an-exit (record { three = n; first = same-true c₀ exitWord e; second = x; third = y }))
-      (λ n₃. either (λ w. SaysSo r (siteLineWith w a b)) (sameBytes c₀ rightWord) (λ e. a-right (record { three = n; first = same-true c₀ rightWord e; second = x; third = y }))
-      (λ n₄. bad-form (λ w i j k t. unknown n₁ n₂ n₃ n₄ k (t .first))))))
+  unfolding wordIn wordNamed c₀ c₁ c₂
+  by-word a b n x y = by-place (λ (k : ℕ). SaysSo r (siteLineWith (wordNamed k) a b)) siteWords c₀ known (λ other. bad-form (λ w i j k t. unknown other k (t .first)))
     where
-      unknown : {w : List ℕ} → sameBytes c₀ siteWord ≡ false → sameBytes c₀ doorWord ≡ false → sameBytes c₀ exitWord ≡ false → sameBytes c₀ rightWord ≡ false → SiteKind w → c₀ ≡ w → ⊥
-      unknown n₁ n₂ n₃ n₄ site-kind e = no-bytes n₁ e
-      unknown n₁ n₂ n₃ n₄ door-kind e = no-bytes n₂ e
-      unknown n₁ n₂ n₃ n₄ exit-kind e = no-bytes n₃ e
-      unknown n₁ n₂ n₃ n₄ right-kind e = no-bytes n₄ e
+      known : (k : ℕ) → k < length siteWords → c₀ ≡ getD siteWords k [] → SaysSo r (siteLineWith (wordNamed k) a b)
+      known zero l e = a-site (record { three = n; first = e; second = x; third = y })
+      known (suc zero) l e = a-door (record { three = n; first = e; second = x; third = y })
+      known (suc (suc zero)) l e = an-exit (record { three = n; first = e; second = x; third = y })
+      known (suc (suc (suc zero))) l e = a-right (record { three = n; first = e; second = x; third = y })
+      known (suc (suc (suc (suc k)))) l e = absurd (omega arith)
+
+      unknown : {w : List ℕ} → ((k : ℕ) → k < length siteWords → c₀ ≡ getD siteWords k [] → ⊥) → SiteKind w → c₀ ≡ w → ⊥
+      unknown other site-kind e = other 0 (omega arith) e
+      unknown other door-kind e = other 1 (omega arith) e
+      unknown other exit-kind e = other 2 (omega arith) e
+      unknown other right-kind e = other 3 (omega arith) e
 
   no-number : {c : List ℕ} {a : ℕ} → numberIn c ≡ number.None → ProperNumber c a → ⊥
   no-number {c} {a} e p = let q = proper-read c p in let z : _≡_ {A = ℕ} 0 1 = cc in omega arith
@@ -153,7 +121,7 @@ module _ (r : Row) where
 
   -- a row says one line
   pub from-says : {line : SiteLine} → SaysSo r line → lineFrom r ≡ line
-  unfolding wordIn sameBytes
+  unfolding wordIn wordNamed placeIn sameBytes
   from-says (a-site t) = three-from t
   from-says (a-door t) = three-from t
   from-says (an-exit t) = three-from t
@@ -167,17 +135,17 @@ module _ (r : Row) where
       go (Right p l) (a-right t) = absurd (n rightWord p l right-kind t)
       go Bad s = refl
 
-  pub header-is : headerFrom r ≡ true → HeaderRow r
+  pub header-is : headerFrom r ≡ true → SiteHeaderRow r
   unfolding headerFrom
   header-is e = go (eqb (length (fields r)) 3) refl
     where
-      go : (q : Bool) → eqb (length (fields r)) 3 ≡ q → HeaderRow r
+      go : (q : Bool) → eqb (length (fields r)) 3 ≡ q → SiteHeaderRow r
       go true q =
           let f = both-true (sameBytes (content (fieldOf 0 r)) kindHead) _ (rw q at e) in
           let g = both-true (sameBytes (content (fieldOf 1 r)) aHead) _ (f .1) in
           record { three = eqb-true _ 3 q; first = same-true _ kindHead (f .0); second = same-true _ aHead (g .0); third = same-true _ bHead (g .1) }
       go false q = absurd (true≢false (sym (let z : false ≡ true = rw q at e in z)))
 
-  pub is-header-row : HeaderRow r → headerFrom r ≡ true
+  pub is-header-row : SiteHeaderRow r → headerFrom r ≡ true
   unfolding headerFrom sameBytes
   is-header-row h = rw (eq-eqb _ 3 (h .three), h .first, h .second, h .third)

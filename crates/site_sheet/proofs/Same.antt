@@ -15,7 +15,7 @@ use Rattle.grammar.proofs.Exact.{row-is-cut, cut-is-row}
 use Rattle.verdict.specs.declared.Verdict.the-variants.{BadRow}
 use Rattle.site_sheet.specs.Line.{siteHeaderAt}
 use Rattle.site_sheet.specs.Site.{refusedSite, afterHeader, siteAt}
-use Rattle.site_sheet.specs.Says.{contents, TextSays, nothing, a-row}
+use Rattle.site_sheet.specs.Says.{contents, TextSaysLines, nothing, a-row}
 use Rattle.site_sheet.proofs.Rows.{lineFrom, headerFrom, header-same, header-is, says-from}
 use Rattle.site_sheet.proofs.Only.{headed-reads}
 
@@ -49,7 +49,7 @@ all-same (r ∷ rs) (q ∷ ss) e =
     let t : map contents rs ≡ map contents ss = cc in
     rw (lines-same r q h, all-same rs ss t)
 
-sheet-says : {text : List ℕ} {rs : List Row} → Sheet text rs → TextSays text (map lineFrom rs)
+sheet-says : {text : List ℕ} {rs : List Row} → Sheet text rs → TextSaysLines text (map lineFrom rs)
 sheet-says no-row = nothing
 sheet-says (row {r = r} a h) = a-row a (says-from r) (sheet-says h)
 

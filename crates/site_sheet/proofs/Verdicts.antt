@@ -38,7 +38,8 @@ use Rattle.site_sheet.specs.Gives.{Headed, FineLines, all-fine, one-fine
 use Rattle.site_sheet.proofs.Held.{Held, Ranged, held-blank}
 use Rattle.site_sheet.proofs.Outcome.{Outcome, fine, wrong, outcome, nothing-before, some-before}
 use Rattle.site_sheet.proofs.Rows.{headerFrom, header-same, header-is, is-header-row}
-use Rattle.site_sheet.proofs.Text.{no-row-end, broken-none, text-says}
+use Rattle.grammar.proofs.Exact.{no-row-end, broken-none}
+use Rattle.site_sheet.proofs.Text.{text-says}
 
 -- ---- the lines of a sheet, read into the tables
 

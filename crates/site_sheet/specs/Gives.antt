@@ -16,7 +16,7 @@ use Rattle.verdict.specs.declared.Verdict.{Verdict}
 use Rattle.verdict.specs.declared.Verdict.the-variants.{Accepted, TooLong, BadRow, NoSite, NoExit, Stray, NoDoor, NoRight, ShutOut}
 use Rattle.site_sheet.specs.Draft.{blankDraft, planIn, takeLine}
 use Rattle.site_sheet.specs.Site.{verdictOf}
-use Rattle.site_sheet.specs.Says.{HeaderRow, TextSays, Fine, Wrong}
+use Rattle.site_sheet.specs.Says.{SiteHeaderRow, TextSaysLines, Fine, Wrong}
 
 -- the sheet is short enough, begins with its header, and its further rows say these lines
 pub record Headed (most : ℕ) (s : List ℕ) (lines : List SiteLine) : Type 0 where
@@ -24,8 +24,8 @@ pub record Headed (most : ℕ) (s : List ℕ) (lines : List SiteLine) : Type 0 w
   pub header : Row
   pub rest : List ℕ
   pub at : RowAt s header rest
-  pub is : HeaderRow header
-  pub says : TextSays rest lines
+  pub is : SiteHeaderRow header
+  pub says : TextSaysLines rest lines
 
 -- each line is right behind those before it
 pub data FineLines : List SiteLine → List SiteLine → Type 0 where
@@ -84,7 +84,7 @@ pub data Gives (most : ℕ) (s : List ℕ) : Verdict → Type 0 where
   -- 1: "sheet over 49,152 bytes"
   gives-1 : most < length s → Gives most s TooLong
   -- 2 at row 0: "wrong header"; "An empty sheet is 2 at row 0"
-  gives-header : length s ≤ most → ((r : Row) (rest : List ℕ) → RowAt s r rest → HeaderRow r → ⊥) → Gives most s (BadRow 0)
+  gives-header : length s ≤ most → ((r : Row) (rest : List ℕ) → RowAt s r rest → SiteHeaderRow r → ⊥) → Gives most s (BadRow 0)
   -- 2, 5, 3, 4 at the first row with which something is wrong
   gives-row : {lines : List SiteLine} {k : ℕ} {f : Fault} {v : Verdict} → Headed most s lines → WrongAt [] lines k f → v ≡ verdictOf f (k + 1) → Gives most s v
   -- 5: "a header alone is 5"

@@ -3,7 +3,7 @@ use Prim.Native.Nat.{ℕ}
 use mathlib.Core.Bool.{Bool, cond}
 use mathlib.Core.List.{List, [], _∷_}
 use lib.Dec.{eqb}
-use Rattle.grammar.specs.Say.{isWord, saysWords, numberAt}
+use Rattle.grammar.specs.Say.{saysWords, numberAt, namedFrom}
 use Rattle.grammar.specs.declared.cut.Cell.{Cell}
 use Rattle.grammar.specs.declared.cut.Cells.{Cells}
 use Rattle.grammar.specs.declared.say.Number.{Number}
@@ -35,12 +35,17 @@ aHead = 97 ∷ []
 abbrev pub bHead : List ℕ
 bHead = 98 ∷ []
 
+-- the kinds of rows in the paper's order, and what the word at a place names; behind them all it is an unknown kind
+abbrev pub siteWords : List (List ℕ)
+siteWords = siteWord ∷ doorWord ∷ exitWord ∷ rightWord ∷ []
+
+unfoldable pub wordNamed : ℕ → Word
+wordNamed n =
+    cond (eqb n 0) word.Site (cond (eqb n 1) word.Door (cond (eqb n 2) word.Exit (cond (eqb n 3) word.Right word.Unknown)))
+
 -- the word that a field is
-unfoldable pub wordOf : List ℕ → Cell → Word
-wordOf s cell =
-    cond (isWord s cell siteWord) word.Site
-    (cond (isWord s cell doorWord) word.Door
-    (cond (isWord s cell exitWord) word.Exit (cond (isWord s cell rightWord) word.Right word.Unknown)))
+abbrev pub wordOf : List ℕ → Cell → Word
+wordOf s cell = namedFrom wordNamed 0 siteWords s cell
 
 abbrev pub siteLineWith : Word → ℕ → ℕ → SiteLine
 siteLineWith word.Site a b = Site a b

@@ -44,18 +44,18 @@ pub data SaysSo (r : Row) : SiteLine → Type 0 where
   bad-form : ((word : List ℕ) (a b : ℕ) → SiteKind word → Three r word a b → ⊥) → SaysSo r Bad
 
 -- "The header row is `kind,a,b`."
-pub record HeaderRow (r : Row) : Type 0 where
+pub record SiteHeaderRow (r : Row) : Type 0 where
   pub three : length (fields r) ≡ 3
   pub first : content (fieldOf 0 r) ≡ kindHead
   pub second : content (fieldOf 1 r) ≡ aHead
   pub third : content (fieldOf 2 r) ≡ bHead
 
 -- the rows of a text say these lines; a text that goes on with no row ends in a line of bad form
-pub data TextSays : List ℕ → List SiteLine → Type 0 where
-  nothing : TextSays [] []
+pub data TextSaysLines : List ℕ → List SiteLine → Type 0 where
+  nothing : TextSaysLines [] []
   a-row : {text : List ℕ} {r : Row} {rest : List ℕ} {line : SiteLine} {lines : List SiteLine} → RowAt text r rest → SaysSo r line
-      → TextSays rest lines → TextSays text (line ∷ lines)
-  no-row-there : {text : List ℕ} → (text ≡ [] → ⊥) → ((r : Row) (rest : List ℕ) → RowAt text r rest → ⊥) → TextSays text (Bad ∷ [])
+      → TextSaysLines rest lines → TextSaysLines text (line ∷ lines)
+  no-row-there : {text : List ℕ} → (text ≡ [] → ⊥) → ((r : Row) (rest : List ℕ) → RowAt text r rest → ⊥) → TextSaysLines text (Bad ∷ [])
 
 -- ---- what lines say of the site
 

@@ -3,9 +3,9 @@ use mathlib.Core.Path.{refl}
 use Rattle.text.specs.Text.{digits, decimal, rowOfNumbers}
 use Rattle.text.specs.Wrote.{behind}
 use Rattle.text.specs.Printed.{fitsIn, printedOf, written}
-use Rattle.text.specs.Examples.{Examples}
+use Rattle.text.specs.Examples.{TextExamples}
 
-pub examples : Examples
+pub examples : TextExamples
 unfolding digits decimal rowOfNumbers behind fitsIn printedOf written
 examples =
     record {

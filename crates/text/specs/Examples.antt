@@ -6,7 +6,7 @@ use Rattle.text.specs.Text.{decimal, rowOfNumbers}
 use Rattle.text.specs.Wrote.{lastPlace, behind}
 use Rattle.text.specs.Printed.{printedOf, written, printedNo}
 
-pub record Examples : Type 0 where
+pub record TextExamples : Type 0 where
   -- 0, 9, 10 and 307: no number begins with a needless zero
   pub numbers-written : (decimal 0 ≡ 48 ∷ []) × (decimal 9 ≡ 57 ∷ []) × (decimal 10 ≡ 49 ∷ 48 ∷ []) × (decimal 307 ≡ 51 ∷ 48 ∷ 55 ∷ [])
   -- `5` and `1,20`, each with CRLF

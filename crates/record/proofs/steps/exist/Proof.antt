@@ -4,7 +4,7 @@ use types.Run.{miss}
 use borrow.Author.Tests.{lt-ltb, le-ltb}
 use Rattle.tables.specs.Tables.{orElse, andAlso}
 use Rattle.record.specs.Steps.{exist}
-use Rattle.record.proofs.Deeds.{others-name-none}
+use Rattle.phases.proofs.Steps.{others-name-none}
 use borrow.Author.Needs.{needs}
 use Rattle.record.proofs.steps.exist.Statement.{statement}
 use Rattle.record.proofs.steps.exist.Tie as tie

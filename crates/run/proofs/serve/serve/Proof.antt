@@ -1,14 +1,14 @@
 -- `serve` meets its contract: what was decoded is run, and there is room for the answers. Assumes nothing.
 use Prim.Native.Nat.{_≤_}
-use mathlib.Core.Path.{_≡_, sym, ap}
+use mathlib.Core.Path.{_≡_, sym}
 use native.Mathlib.Omega.{arith}
 use lib.ListN.{length}
 use lib.Seq.{length-take-le}
 use Rattle.record.specs.Run.{answerTold, phaseTold, reasonTold}
-use Rattle.grammar.specs.Rows.{rowsFrom}
-use Rattle.run_text.specs.declared.steps.Decoded.{Decoded}
-use Rattle.run_text.specs.Steps.{stepsFrom, mostSteps}
-use Rattle.run_text.proofs.Serving.{steps-even, decoded-are, ran-steps, told-steps}
+use Rattle.steps_sheet.specs.Steps.{stepsFrom}
+use Rattle.steps_sheet.specs.Lent.{mostSteps}
+use Rattle.steps_sheet.proofs.Theorems.{few-counted}
+use Rattle.run_text.proofs.Serving.{room-most, count-is, whole-is, decoded-are, ran-steps, told-steps}
 use borrow.Author.Needs.{needs}
 use Rattle.run.proofs.serve.serve.Statement.{statement}
 use Rattle.run.proofs.serve.serve.Tie as tie
@@ -35,29 +35,47 @@ decode-requires : tie.Need-decode-requires
 decode-requires c κs = search needs
 
 array-share-prefix-kinds : tie.Need-array-share-prefix-kinds
-array-share-prefix-kinds c = search needs
+array-share-prefix-kinds c =
+    let a = c .before .before .before .before .before .before .before .before .before .before .before .before .before .before .args in
+    let few = few-counted (a .s .now) (a .from) _ (c .before .before .before .decode .ensures .0) in
+    let short = c .before .before .before .before .before .before .before .before .before .before .before .before .before .before .pre .1 .0 in
+    search needs
 
 slice-aggregate-run : tie.Need-slice-aggregate-run
 slice-aggregate-run c =
-    let few = c .before .before .before .before .decode .ensures .1 .0 in
+    let a = c .before .before .before .before .before .before .before .before .before .before .before .before .before .before .before .args in
+    let few = few-counted (a .s .now) (a .from) _ (c .before .before .before .before .decode .ensures .0) in
+    let short = c .before .before .before .before .before .before .before .before .before .before .before .before .before .before .before .pre .1 .0 in
     let long : mostSteps ≡ length (c .before .before .before .before .decode .last .1 .1 .0) = search needs in
     sym (length-take-le _ _ (omega arith))
 
 array-share-prefix-doors : tie.Need-array-share-prefix-doors
-array-share-prefix-doors c = search needs
+array-share-prefix-doors c =
+    let a = c .before .before .before .before .before .before .before .before .before .before .before .before .before .before .before .args in
+    let few = few-counted (a .s .now) (a .from) _ (c .before .before .before .before .decode .ensures .0) in
+    let short = c .before .before .before .before .before .before .before .before .before .before .before .before .before .before .before .pre .1 .0 in
+    search needs
 
 slice-aggregate-run-2 : tie.Need-slice-aggregate-run-2
 slice-aggregate-run-2 c =
-    let few = c .before .before .before .before .before .decode .ensures .1 .0 in
+    let a = c .before .before .before .before .before .before .before .before .before .before .before .before .before .before .before .before .args in
+    let few = few-counted (a .s .now) (a .from) _ (c .before .before .before .before .before .decode .ensures .0) in
+    let short = c .before .before .before .before .before .before .before .before .before .before .before .before .before .before .before .before .pre .1 .0 in
     let long : mostSteps ≡ length (c .before .before .before .before .before .decode .last .1 .1 .1 .0) = search needs in
     sym (length-take-le _ _ (omega arith))
 
 array-share-prefix-persons : tie.Need-array-share-prefix-persons
-array-share-prefix-persons c = search needs
+array-share-prefix-persons c =
+    let a = c .before .before .before .before .before .before .before .before .before .before .before .before .before .before .before .before .args in
+    let few = few-counted (a .s .now) (a .from) _ (c .before .before .before .before .before .decode .ensures .0) in
+    let short = c .before .before .before .before .before .before .before .before .before .before .before .before .before .before .before .before .pre .1 .0 in
+    search needs
 
 slice-aggregate-run-3 : tie.Need-slice-aggregate-run-3
 slice-aggregate-run-3 c =
-    let few = c .before .before .before .before .before .before .decode .ensures .1 .0 in
+    let a = c .before .before .before .before .before .before .before .before .before .before .before .before .before .before .before .before .before .args in
+    let few = few-counted (a .s .now) (a .from) _ (c .before .before .before .before .before .before .decode .ensures .0) in
+    let short = c .before .before .before .before .before .before .before .before .before .before .before .before .before .before .before .before .before .pre .1 .0 in
     let long : mostSteps ≡ length (c .before .before .before .before .before .before .decode .last .1 .1 .1 .1 .0) = search needs in
     sym (length-take-le _ _ (omega arith))
 
@@ -77,29 +95,31 @@ returns : tie.Need-returns
 returns c =
     let a = c .before .before .before .before .before .before .before .before .before .before .before .before .before .before .before .before .before .before .before .before .before .before .before .before .before .before .before .before .args in
     let p = c .before .before .before .before .before .before .before .before .before .before .before .before .before .before .before .before .before .before .before .before .before .before .before .before .before .before .before .before .pre in
-    let steps = stepsFrom (a .s .now) (a .from) in
-    let even = steps-even (a .s .now) (rowsFrom (a .s .now) (a .from)) in
+    let decoded = c .before .before .before .before .before .before .before .before .before .before .before .before .before .before .before .before .before .decode .result in
     let d = c .before .before .before .before .before .before .before .before .before .before .before .before .before .before .before .before .before .decode .ensures in
-    let few = d .1 .0 in
-    let count : c .before .before .before .before .before .before .before .before .before .before .before .before .before .before .before .before .before .decode .result .count ≡ length (steps .kinds) = ap (λ (x : Decoded). x .count) (d .0) in
-    let whole : c .before .before .before .before .before .before .before .before .before .before .before .before .before .before .before .before .before .decode .result .whole ≡ steps .whole = ap (λ (x : Decoded). x .whole) (d .0) in
+    let steps = stepsFrom (a .s .now) (a .from) in
     let kinds = c .before .before .before .before .before .before .before .before .before .before .before .before .before .before .before .before .before .before .before .before .before .before .before .blank-bytes in
     let doors = c .before .before .before .before .before .before .before .before .before .before .before .before .before .before .before .before .before .before .before .before .before .before .blank-numbers in
     let persons = c .before .before .before .before .before .before .before .before .before .before .before .before .before .before .before .before .before .before .before .before .before .blank-numbers2 in
-    let lists = decoded-are steps (kinds .result) (doors .result) (persons .result) even (d .0) (omega (arith, kinds .ensures)) (omega (arith, doors .ensures)) (omega (arith, persons .ensures)) (d .1 .1 .0) (d .1 .1 .1 .0) (d .1 .1 .1 .1) in
-    let ha : length (steps .kinds) ≤ length (a .answers .now) = omega (arith, p .1 .1 .0) in
-    let hp : length (steps .kinds) ≤ length (a .phases .now) = omega (arith, p .1 .1 .1) in
-    let hr : length (steps .kinds) ≤ length (a .reasons .now) = omega (arith, p .1 .1 .2) in
+    let room = room-most (length (a .s .now)) _ _ _ (p .1 .0) (kinds .ensures) (doors .ensures) (persons .ensures) in
+    let count = count-is steps _ room (d .0) in
+    let whole = whole-is steps _ room (d .0) in
+    let counted = few-counted (a .s .now) (a .from) _ (d .0) in
+    let few : decoded .count ≤ mostSteps = omega (arith, p .1 .0) in
+    let lists = decoded-are steps _ room (d .0) (kinds .result) (doors .result) (persons .result) (omega (arith, few, kinds .ensures)) (omega (arith, few, doors .ensures)) (omega (arith, few, persons .ensures)) (d .1 .0) (d .1 .1 .0) (d .1 .1 .1) in
+    let ha : length (steps .rows) ≤ length (a .answers .now) = omega (arith, p .1 .1 .0) in
+    let hp : length (steps .rows) ≤ length (a .phases .now) = omega (arith, p .1 .1 .1) in
+    let hr : length (steps .rows) ≤ length (a .reasons .now) = omega (arith, p .1 .1 .2) in
     let e = c .before .before .before .before .before .before .before .run .ensures in
-    let next = ran-steps (a .fresh) steps (a .answers .now) (a .phases .now) (a .reasons .now) (p .0) even ha hp hr lists (e .0) in (
+    let next = ran-steps (a .fresh) steps (a .answers .now) (a .phases .now) (a .reasons .now) (p .0) ha hp hr lists (e .0) in (
       rw (next, count, whole),
       (
         few,
         (
-          told-steps (a .fresh) steps (a .answers .now) (a .phases .now) (a .reasons .now) (p .0) even ha hp hr answerTold (a .answers .now) lists (e .1 .0),
+          told-steps (a .fresh) steps (a .answers .now) (a .phases .now) (a .reasons .now) (p .0) ha hp hr lists answerTold (a .answers .now) (e .1 .0),
           (
-            told-steps (a .fresh) steps (a .answers .now) (a .phases .now) (a .reasons .now) (p .0) even ha hp hr phaseTold (a .phases .now) lists (e .1 .1 .0),
-            told-steps (a .fresh) steps (a .answers .now) (a .phases .now) (a .reasons .now) (p .0) even ha hp hr reasonTold (a .reasons .now) lists (e .1 .1 .1),
+            told-steps (a .fresh) steps (a .answers .now) (a .phases .now) (a .reasons .now) (p .0) ha hp hr lists phaseTold (a .phases .now) (e .1 .1 .0),
+            told-steps (a .fresh) steps (a .answers .now) (a .phases .now) (a .reasons .now) (p .0) ha hp hr lists reasonTold (a .reasons .now) (e .1 .1 .1),
           ),
         ),
       ),

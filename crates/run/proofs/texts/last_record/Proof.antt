@@ -1,6 +1,7 @@
 -- `last_record` meets its contract, by the steps' heading. Assumes nothing.
 use mathlib.Core.Path.{sym, _∙_}
-use Rattle.run_text.proofs.Sheets.{headed-short}
+use Rattle.grammar.specs.Sizes.{limit}
+use Rattle.steps_sheet.proofs.Theorems.{headed-short}
 use borrow.Author.Needs.{needs}
 use Rattle.run.proofs.texts.last_record.Statement.{statement}
 use Rattle.run.proofs.texts.last_record.Tie as tie
@@ -18,7 +19,7 @@ enum-known-from : tie.Need-enum-known-from
 enum-known-from c = search needs
 
 record-after-requires : tie.Need-record-after-requires
-record-after-requires c κs = (c .before .before .before .before .before .pre, headed-short (c .before .before .before .before .before .args .steps .now) (sym (c .before .before .before .heading-of .ensures) ∙ c .before .from .given .1))
+record-after-requires c κs = (c .before .before .before .before .before .pre, headed-short limit (c .before .before .before .before .before .args .steps .now) (sym (c .before .before .before .heading-of .ensures) ∙ c .before .from .given .1))
 
 returns : tie.Need-returns
 returns c = rw (sym (c .before .before .heading-of .ensures) ∙ c .enum-told .given .1)

@@ -1,7 +1,8 @@
 -- `print_headed` meets its contract: a number alone, or the run, by the steps' heading. Assumes nothing.
 use mathlib.Core.Path.{sym, ap, _∙_}
 use Rattle.run_text.specs.Printed.{stepsText}
-use Rattle.run_text.proofs.Sheets.{headed-short}
+use Rattle.grammar.specs.Sizes.{limit}
+use Rattle.steps_sheet.proofs.Theorems.{headed-short}
 use Rattle.text.proofs.Printing.{text-is}
 use borrow.Author.Needs.{needs}
 use Rattle.run.proofs.texts.print_headed.Statement.{statement}
@@ -26,7 +27,7 @@ enum-known-from : tie.Need-enum-known-from
 enum-known-from c = search needs
 
 print-steps-requires : tie.Need-print-steps-requires
-print-steps-requires c κs = (c .before .before .before .before .before .before .before .pre, headed-short (c .before .before .before .before .before .before .before .args .steps .now) (sym (c .before .before .before .before .heading-of .ensures) ∙ c .before .before .from .given .1))
+print-steps-requires c κs = (c .before .before .before .before .before .before .before .pre, headed-short limit (c .before .before .before .before .before .before .before .args .steps .now) (sym (c .before .before .before .before .heading-of .ensures) ∙ c .before .before .from .given .1))
 
 same-length : tie.Need-same-length
 same-length c = search needs

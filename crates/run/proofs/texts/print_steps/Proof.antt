@@ -4,11 +4,11 @@ use mathlib.Core.List.{map}
 use native.Mathlib.Omega.{arith}
 use lib.ListN.{length, take}
 use lib.Seq.{length-take-le}
-use Rattle.grammar.specs.Rows.{rowsFrom}
 use Rattle.record.specs.Run.{repliesOf, answerTold, phaseTold, reasonTold}
 use Rattle.run_text.specs.declared.serve.Served.{Served}
-use Rattle.run_text.specs.Steps.{stepsFrom, rowsIn, mostSteps}
-use Rattle.run_text.proofs.Serving.{steps-even, steps-told, front-of, parts-back}
+use Rattle.steps_sheet.specs.Steps.{stepsFrom}
+use Rattle.steps_sheet.specs.Lent.{mostSteps}
+use Rattle.run_text.proofs.Serving.{told-length, front-of, parts-back}
 use borrow.Author.Needs.{needs}
 use Rattle.run.proofs.texts.print_steps.Statement.{statement}
 use Rattle.run.proofs.texts.print_steps.Tie as tie
@@ -81,17 +81,16 @@ returns c =
     let a = c .before .before .before .before .before .before .before .before .before .before .before .before .before .before .before .before .before .before .before .args in
     let s = c .before .before .before .before .before .before .before .before .before .before .serve in
     let steps = stepsFrom (a .s .now) (a .from) in
-    let even = steps-even (a .s .now) (rowsFrom (a .s .now) (a .from)) in
     let few = s .ensures .1 .0 in
     let in-answers = c .before .before .before .before .before .before .before .before .before .before .before .before .before .before .before .before .blank-bytes in
     let in-phases = c .before .before .before .before .before .before .before .before .before .before .before .before .before .before .before .blank-bytes2 in
     let in-reasons = c .before .before .before .before .before .before .before .before .before .before .before .before .before .before .blank-bytes3 in
-    let count : s .result .count ≡ length (steps .kinds) = ap (λ (x : Served). x .count) (s .ensures .0) in
+    let count : s .result .count ≡ length (steps .rows) = ap (λ (x : Served). x .count) (s .ensures .0) in
     let whole : s .result .whole ≡ steps .whole = ap (λ (x : Served). x .whole) (s .ensures .0) in
-    let answers : take (s .result .count) (s .last .1 .1 .1 .0) ≡ map answerTold (repliesOf (a .fresh) (rowsIn steps)) = front-of _ (in-answers .result) (count ∙ sym (steps-told answerTold (a .fresh) even)) (omega (arith, in-answers .ensures)) (s .ensures .1 .1 .0) in
-    let phases : take (s .result .count) (s .last .1 .1 .1 .1 .0) ≡ map phaseTold (repliesOf (a .fresh) (rowsIn steps)) = front-of _ (in-phases .result) (count ∙ sym (steps-told phaseTold (a .fresh) even)) (omega (arith, in-phases .ensures)) (s .ensures .1 .1 .1 .0) in
-    let reasons : take (s .result .count) (s .last .1 .1 .1 .1 .1 .0) ≡ map reasonTold (repliesOf (a .fresh) (rowsIn steps)) = front-of _ (in-reasons .result) (count ∙ sym (steps-told reasonTold (a .fresh) even)) (omega (arith, in-reasons .ensures)) (s .ensures .1 .1 .1 .1) in
-    rw (answers, phases, reasons, whole, parts-back (repliesOf (a .fresh) (rowsIn steps))) at (c .before .before .print-run .ensures)
+    let answers : take (s .result .count) (s .last .1 .1 .1 .0) ≡ map answerTold (repliesOf (a .fresh) (steps .rows)) = front-of _ (in-answers .result) (count ∙ sym (told-length answerTold (a .fresh) (steps .rows))) (omega (arith, in-answers .ensures)) (s .ensures .1 .1 .0) in
+    let phases : take (s .result .count) (s .last .1 .1 .1 .1 .0) ≡ map phaseTold (repliesOf (a .fresh) (steps .rows)) = front-of _ (in-phases .result) (count ∙ sym (told-length phaseTold (a .fresh) (steps .rows))) (omega (arith, in-phases .ensures)) (s .ensures .1 .1 .1 .0) in
+    let reasons : take (s .result .count) (s .last .1 .1 .1 .1 .1 .0) ≡ map reasonTold (repliesOf (a .fresh) (steps .rows)) = front-of _ (in-reasons .result) (count ∙ sym (told-length reasonTold (a .fresh) (steps .rows))) (omega (arith, in-reasons .ensures)) (s .ensures .1 .1 .1 .1) in
+    rw (answers, phases, reasons, whole, parts-back (repliesOf (a .fresh) (steps .rows))) at (c .before .before .print-run .ensures)
 
 pub print-steps-spec : {M : Type 1} → statement M
 print-steps-spec =

@@ -1,6 +1,6 @@
 -- `where_text` meets its contract: the site's refusal, then the record after the steps sheet. Assumes nothing.
 use mathlib.Core.Path.{refl}
-use Rattle.run_text.specs.Steps.{headingOf}
+use Rattle.steps_sheet.specs.Steps.{headingOf}
 use Rattle.run_text.proofs.Sheets.{where-refused, fresh-sound, last-few, where-is}
 use Rattle.text.proofs.Printing.{text-is}
 use borrow.Author.Needs.{needs}

@@ -30,6 +30,12 @@ returns-2 c =
 mul-result : tie.Need-mul-result
 mul-result c = search needs
 
+cast-result : tie.Need-cast-result
+cast-result c = search needs
+
+cast-result-2 : tie.Need-cast-result-2
+cast-result-2 c = search needs
+
 add-result : tie.Need-add-result
 add-result c = search needs
 
@@ -46,4 +52,4 @@ returns-3 c =
     simp (lt-ltb (numberOfKind (a .self)) 10 (omega arith), lt-ltb (a .phase) 10 (omega arith), ← is)
 
 pub allowed-in-spec : {M : Type 1} → statement M
-allowed-in-spec = tie.close (tie.spec number-requires returns returns-2 mul-result add-result array-read-result returns-3)
+allowed-in-spec = tie.close (tie.spec number-requires returns returns-2 cast-result mul-result cast-result-2 add-result array-read-result returns-3)

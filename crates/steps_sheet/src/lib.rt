@@ -1,0 +1,29 @@
+// What a steps sheet says: its header, and the steps of its rows up to the first of bad form. The definitions are in specs/, in
+// the words of paper 01, "Program and one whole run", and the theorems of them in proofs/. There is no function here: the types are
+// those that the crate `steps` answers with.
+use phases::answer::Answer;
+use phases::table::Kind;
+
+// What the beginning of a steps sheet is.
+pub enum Heading {
+    // over the limit
+    TooLong,
+    // not the header
+    Wrong,
+    // the header; the first data row begins there
+    Rows(usize),
+}
+
+// What a row says: the step, its door and its person; or it is of bad form.
+pub enum StepsLine {
+    Step(Kind, u16, u16),
+    Bad,
+}
+
+// What became of the rows of a sheet: done, so many steps, and whether the sheet ends behind them or a row of bad form follows;
+// or a lent list was too short.
+pub struct Decoded {
+    pub answer: Answer,
+    pub count: usize,
+    pub whole: bool,
+}
