@@ -3,7 +3,8 @@
 --     done-did, allowed-does                   a step is done exactly when it may be, and does what its clause says
 --     unsound-14, absent-11, barred-12         the refusals, in their order
 --     sound-stays, shaped-stays                a sound record stays sound
---     plan-stays, rights-stay, others-stay, places-stay    a step alters nothing of the plan, of the rights, of any other door and of anybody's place ..
+--     plan-stays, rights-stay, room-stays      a step alters nothing of the plan and the rights, nor the number of places,
+--     others-stay, places-stay                 of any other door and of anybody's place ..
 --     passed-moves                             .. except `passed`, which moves the held person and nobody else
 --     refused-stays, barred-stays              a refused step is no change
 --     denied-first                             the reason is the first that applies
@@ -12,7 +13,7 @@
 --     lapsed-frees                             after `lapsed` the person holds no grant
 --     green-burns, green-expires, red-burns, red-dims
 --                                              a light burns for exactly as many ticks of its door as its countdown says
---     run-sound, run-shaped, run-plan        the same of a whole list of steps
+--     run-sound, run-shaped, run-plan          the same of a whole list of steps
 -- Assumes nothing.
 use Prim.Native.Nat.{ℕ, suc, _≤_, _<_, _-_, _+_}
 use mathlib.Core.Path.{_≡_, refl, sym, ap, subst, _∙_}

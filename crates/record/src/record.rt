@@ -13,8 +13,8 @@ use tables::MOST_PEOPLE;
 use tables::MOST_RIGHTS;
 
 // The tables: the counts, each door's origin and destination, each location's exit, and the rights,
-// MOST_LOCATIONS to a person. Beside them: the location of each person, and for each door its phase, the person
-// whom it holds and its countdown.
+// MOST_LOCATIONS to a person. Beside them: the location of each person, and for each door its phase,
+// the person whom it holds and its countdown.
 #[repr(C)]
 pub struct Record {
     pub people: usize,

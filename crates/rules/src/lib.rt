@@ -1,8 +1,8 @@
 // The rules of a site's tables, and the way out of a location.
 //
 // The tables are lent, never copied: `origin` and `destination` have an entry for each door, `exit`
-// one for each location, `right` MOST_LOCATIONS for each person. Past the end of a table an entry is 0, and a
-// right is not given. Location 0 is outside, and everybody's.
+// one for each location, `right` MOST_LOCATIONS for each person. Past the end of a table an entry
+// is 0, and a right is not given. Location 0 is outside, and everybody's.
 ghost use mathlib.Core.Path.{_≡_};
 ghost use Prim.Native.Nat.{ℕ, _+_, _≤_};
 ghost use mathlib.Core.List.{List};

@@ -1,7 +1,8 @@
 -- The theorems of the rules: what each test of `specs/Tests.antt` tells, and that each public function's answer is none exactly
 -- when the rule's fact holds, and k exactly when k is the smallest offender.
 --     in-range-tells         rule 3
---     rule-6, exits-given-tellsrule 6: a search answers, and nothing is found exactly when every location but 0 has an exit
+--     rule-6, exits-given-tells
+--                            rule 6: a search answers, and nothing is found exactly when every location but 0 has an exit
 --     rule-7 .. rule-10      the other rules, 7 on tables whose numbers are in range
 --     lawful-tells           the whole test
 -- Assumes nothing.

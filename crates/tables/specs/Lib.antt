@@ -1,5 +1,5 @@
--- The site's rules, as paper 01 writes them: `Tables` reads the tables, `Below` says what holds below a number, `Way` is
--- the way out of a location, `Rules` are the rules that an accepted site obeys, `Tests` what the code computes of them.
+-- The site's rules, as paper 01 writes them: `Tables` has the plan and reads the tables, `Below` says what holds below a number,
+-- `Way` is the way out of a location, `Rules` are the rules that an accepted site obeys, `Tests` what the code computes of them.
 pub mod Tables
 pub mod Below
 pub mod Way
