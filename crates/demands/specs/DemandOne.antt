@@ -10,6 +10,7 @@ use mathlib.Core.Logic.{_⊎_, _↔_}
 use lib.ListN.{length, getD, set, take, drop, replicate}
 use lib.Seq.{sets}
 use denote.Ref.{RefT, now}
+use Rattle.numbers.specs.Numbers.{doneNo, tooLongNo, noSiteNo, noRightNo, shutOutNo, noSuchNo, notAllowedNo, tooShortNo, unsoundNo}
 use Rattle.sheet.specs.declared.reader.Reader.{Reader}
 use Rattle.grammar.specs.declared.cut.Cell.{Cell}
 use Rattle.grammar.specs.declared.cut.Cells.{Cells}
@@ -131,7 +132,7 @@ pub record TextWritten (list : List ℕ) (at : ℕ) (text after : List ℕ) (nex
 
 -- 13: "list lent .. is shorter"; else the text stands in front, its length told, and the rest is unaltered
 pub record TextTells (text out : List ℕ) : Type 0 where
-  pub number : NumberBy (13 unless length text ≤ length out then done) (printedNo (printedOf text out))
+  pub number : NumberBy (tooShortNo unless length text ≤ length out then done) (printedNo (printedOf text out))
   pub a-length : length text ≤ length out → printedOf text out ≡ Text (length text)
   pub in-front : length text ≤ length out → written text out ≡ text ++ drop (length text) out
   pub unaltered : length out < length text → written text out ≡ out
@@ -145,7 +146,7 @@ pub record TextAnswers : Type 0 where
   -- a row has a digit and CRLF at least
   pub put-row : (list : List ℕ) (at first : ℕ) (more after : List ℕ) (next : ℕ) → Wrote list at (rowOfNumbers first more) after next
       → TextWritten list at (rowOfNumbers first more) after next × (3 ≤ length (rowOfNumbers first more))
-  pub printed-number : (p : Printed) → OneOf (0 ∷ 13 ∷ []) (printedNo p)
+  pub printed-number : (p : Printed) → OneOf (doneNo ∷ tooShortNo ∷ []) (printedNo p)
 
 -- ---- crate `tables`
 
@@ -187,7 +188,7 @@ DoesTold (Moves c) = c .phase ≤ closed
 
 pub record DoorAnswers : Type 0 where
   -- the table's numbers of steps and questions
-  pub answer-number : (a : Answer) → OneOf (0 ∷ 11 ∷ 12 ∷ 13 ∷ 14 ∷ []) (answerNo a)
+  pub answer-number : (a : Answer) → OneOf (doneNo ∷ noSuchNo ∷ notAllowedNo ∷ tooShortNo ∷ unsoundNo ∷ []) (answerNo a)
   -- a number past 9 names no step, and no phase allows that
   pub kind-of : (n : ℕ) → 10 ≤ n → kindOf n ≡ Unknown
   -- the number of a step names it
@@ -225,7 +226,7 @@ pub record Exists (r : Record) (k : Kind) (d p : ℕ) : Type 0 where
 
 -- "14, then 11, then 12"; `soundB r ≡ true` is "the record is sound", as `is-sound` says below
 abbrev pub stepOrder : Record → Kind → ℕ → ℕ → Order
-stepOrder r k d p = 14 unless soundB r ≡ true then 11 unless Exists r k d p then 12 unless allows k (getD (r .phase) d 0) ≡ true then done
+stepOrder r k d p = unsoundNo unless soundB r ≡ true then noSuchNo unless Exists r k d p then notAllowedNo unless allows k (getD (r .phase) d 0) ≡ true then done
 
 -- s is what the step answers
 pub record StepTells (r : Record) (k : Kind) (d p : ℕ) (s : Step) : Type 0 where
@@ -251,7 +252,7 @@ pub record Room (steps doors persons answers phases reasons : List ℕ) : Type 0
   pub in-reasons : length steps ≤ length reasons
 
 pub record RunTells (r : Record) (steps doors persons answers phases reasons : List ℕ) : Type 0 where
-  pub number : NumberBy (14 unless soundB r ≡ true then 13 unless Room steps doors persons answers phases reasons then done)
+  pub number : NumberBy (unsoundNo unless soundB r ≡ true then tooShortNo unless Room steps doors persons answers phases reasons then done)
       (answerNo (runOf r steps doors persons answers phases reasons .answer))
   -- "After a refusal the record and every lent list hold what they held before."
   pub unaltered : (runOf r steps doors persons answers phases reasons .answer ≡ Done → ⊥)
@@ -268,25 +269,25 @@ pub record RunTells (r : Record) (steps doors persons answers phases reasons : L
 
 -- "A refused question tells its number, and 0 or none for all else."
 pub record PlaceTells (r : Record) (p : ℕ) : Type 0 where
-  pub number : NumberBy (14 unless soundB r ≡ true then 11 unless p < r .people then done) (placeNo (placeOf r p))
-  pub location : placeNo (placeOf r p) ≡ 0 → placeTold (placeOf r p) ≡ getD (r .place) p 0
-  pub refused : (placeNo (placeOf r p) ≡ 0 → ⊥) → placeTold (placeOf r p) ≡ 0
+  pub number : NumberBy (unsoundNo unless soundB r ≡ true then noSuchNo unless p < r .people then done) (placeNo (placeOf r p))
+  pub location : placeNo (placeOf r p) ≡ doneNo → placeTold (placeOf r p) ≡ getD (r .place) p 0
+  pub refused : (placeNo (placeOf r p) ≡ doneNo → ⊥) → placeTold (placeOf r p) ≡ 0
 
 pub record GrantTells (r : Record) (p : ℕ) : Type 0 where
-  pub number : NumberBy (14 unless soundB r ≡ true then 11 unless p < r .people then done) (grantNo (grantedTo r p))
-  pub a-door : grantNo (grantedTo r p) ≡ 0 → grantTold (grantedTo r p) ≡ grantOf (r .doors) (r .phase) (r .holder) p
-  pub refused : (grantNo (grantedTo r p) ≡ 0 → ⊥) → grantTold (grantedTo r p) ≡ Nothing
+  pub number : NumberBy (unsoundNo unless soundB r ≡ true then noSuchNo unless p < r .people then done) (grantNo (grantedTo r p))
+  pub a-door : grantNo (grantedTo r p) ≡ doneNo → grantTold (grantedTo r p) ≡ grantOf (r .doors) (r .phase) (r .holder) p
+  pub refused : (grantNo (grantedTo r p) ≡ doneNo → ⊥) → grantTold (grantedTo r p) ≡ Nothing
 
 pub record WayOutTells (r : Record) (l : ℕ) (list : List ℕ) : Type 0 where
   pub number : NumberBy
-      (14 unless soundB r ≡ true then 11 unless l < r .locations then 13 unless length (wayOf (r .locations) (r .exit) l) ≤ length list then done)
+      (unsoundNo unless soundB r ≡ true then noSuchNo unless l < r .locations then tooShortNo unless length (wayOf (r .locations) (r .exit) l) ≤ length list then done)
       (wayNo (wayAnswerOf r l list))
-  pub a-length : wayNo (wayAnswerOf r l list) ≡ 0 → lengthTold (wayAnswerOf r l list) ≡ length (wayOf (r .locations) (r .exit) l)
+  pub a-length : wayNo (wayAnswerOf r l list) ≡ doneNo → lengthTold (wayAnswerOf r l list) ≡ length (wayOf (r .locations) (r .exit) l)
   -- "written into the front of a lent list .., the rest of the list unaltered"
-  pub in-front : wayNo (wayAnswerOf r l list) ≡ 0
+  pub in-front : wayNo (wayAnswerOf r l list) ≡ doneNo
       → wayWritten r l list ≡ wayOf (r .locations) (r .exit) l ++ drop (length (wayOf (r .locations) (r .exit) l)) list
-  pub refused : (wayNo (wayAnswerOf r l list) ≡ 0 → ⊥) → lengthTold (wayAnswerOf r l list) ≡ 0
-  pub unaltered : (wayNo (wayAnswerOf r l list) ≡ 0 → ⊥) → wayWritten r l list ≡ list
+  pub refused : (wayNo (wayAnswerOf r l list) ≡ doneNo → ⊥) → lengthTold (wayAnswerOf r l list) ≡ 0
+  pub unaltered : (wayNo (wayAnswerOf r l list) ≡ doneNo → ⊥) → wayWritten r l list ≡ list
 
 pub record RecordAnswers : Type 0 where
   -- the test of soundness tells it, of every record whose lists of doors and locations are as long as its arrays
@@ -323,11 +324,11 @@ pub record SiteTells (s : List ℕ) : Type 0 where
 
 pub record SiteAnswers : Type 0 where
   pub read-site : (s : List ℕ) → SiteTells s
-  pub verdict-number : (v : Verdict) → site.verdictNo v ≤ 10
+  pub verdict-number : (v : Verdict) → site.verdictNo v ≤ shutOutNo
   -- column "Place told": 0 with 0 and 1, and 1 with 5
-  pub verdict-place : (v : Verdict) → (site.verdictNo v ≤ 1 → firstPlace v ≡ 0) × (site.verdictNo v ≡ 5 → firstPlace v ≡ 1)
+  pub verdict-place : (v : Verdict) → (site.verdictNo v ≤ tooLongNo → firstPlace v ≡ 0) × (site.verdictNo v ≡ noSiteNo → firstPlace v ≡ 1)
   -- "Unused place numbers are 0.": 9 alone tells two
-  pub verdict-second-place : (v : Verdict) → (site.verdictNo v ≡ 9 → ⊥) → secondPlace v ≡ 0
+  pub verdict-second-place : (v : Verdict) → (site.verdictNo v ≡ noRightNo → ⊥) → secondPlace v ≡ 0
 
 -- ---- crate `steps`
 
@@ -338,7 +339,7 @@ pub record StepsRoom (bytes : ℕ) (kinds doors persons : List ℕ) : Type 0 whe
   pub in-persons : mostIn bytes ≤ length persons
 
 pub record DecodeTells (s : List ℕ) (from : ℕ) (kinds doors persons : List ℕ) : Type 0 where
-  pub number : NumberBy (13 unless StepsRoom (length s) kinds doors persons then done) (answerNo (decodedIn s from kinds doors persons .answer))
+  pub number : NumberBy (tooShortNo unless StepsRoom (length s) kinds doors persons then done) (answerNo (decodedIn s from kinds doors persons .answer))
   -- "After a refusal .. every lent list hold[s] what [it] held before."
   pub unaltered : (decodedIn s from kinds doors persons .answer ≡ Done → ⊥)
       → (kindsListed s from kinds doors persons ≡ kinds) × (doorsListed s from kinds doors persons ≡ doors) × (personsListed s from kinds doors persons ≡ persons)

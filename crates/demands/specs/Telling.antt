@@ -3,6 +3,7 @@ use Prim.Native.Nat.{ℕ}
 use mathlib.Core.Path.{_≡_}
 use mathlib.Core.List.{List, [], _∷_}
 use mathlib.Core.Logic.{_⊎_}
+use Rattle.numbers.specs.Numbers.{doneNo}
 
 -- "Steps and questions: 14, then 11, then 12 or 13.": a number, the fact without which it is given, and what is asked next
 infixr 5 _unless_then_
@@ -12,7 +13,7 @@ pub data Order : Type 1 where
 
 -- n is the number of the first fact that fails, and 0 where none does
 abbrev pub NumberBy : Order → ℕ → Type 0
-NumberBy done n = n ≡ 0
+NumberBy done n = n ≡ doneNo
 NumberBy (m unless Fact then order) n = ((Fact → ⊥) × (n ≡ m)) ⊎ (Fact × NumberBy order n)
 
 -- n is one of these numbers

@@ -15,6 +15,7 @@ ghost use Rattle.run_text.specs.Printed.{answerRows, repliesFrom, runText, alon
 ghost use Rattle.run_text.specs.Printed.{placesText, recordText, lastRecord, whereText};
 use crate::blank::blank_bytes;
 use crate::serve::serve;
+use numbers::Paper;
 use record::record::Record;
 use site::read::read_site;
 use steps::heading_of;
@@ -22,11 +23,6 @@ use steps_sheet::Heading;
 use text::printed::Printed;
 use text::write::put_bytes;
 use text::write::put_row;
-
-// The numbers of a long sheet and of a row of bad form or a wrong header.
-const TOO_LONG: u8 = 1;
-
-const BAD_FORM: u8 = 2;
 
 // A byte as a number of the text.
 fn wide(byte: u8) -> usize
@@ -74,7 +70,12 @@ fn put_run<'a>(
     if whole {
         return end;
     }
-    put_row(out, end, answers.len() + 1, &[BAD_FORM as usize, 0, 0])
+    put_row(
+        out,
+        end,
+        answers.len() + 1,
+        &[Paper::BAD_FORM as usize, 0, 0],
+    )
 }
 
 // The text of a run, if it fits.
@@ -139,8 +140,8 @@ fn print_headed<'a>(fresh: Record, steps: &'a [u8], out: &'a mut [u8]) -> Printe
     ensures { λ r. ⌜ Prints (stepsText fresh (now (steps .entry)) (headingOf (now (steps .entry)))) (now (out .entry)) r (now (out .exit)) ⌝ }
 {
     match heading_of(steps) {
-        Heading::TooLong => print_alone(TOO_LONG, out),
-        Heading::Wrong => print_alone(BAD_FORM, out),
+        Heading::TooLong => print_alone(Paper::TOO_LONG, out),
+        Heading::Wrong => print_alone(Paper::BAD_FORM, out),
         Heading::Rows(from) => print_steps(fresh, steps, from, out),
     }
 }
@@ -152,7 +153,7 @@ pub fn panel_text<'a>(site: &'a [u8], steps: &'a [u8], out: &'a mut [u8]) -> Pri
     let read = read_site(site);
     let verdict = read.verdict;
     let number = verdict.number();
-    if number != 0 {
+    if number != Paper::DONE {
         return print_alone(number, out);
     }
     let fresh = read.record;
@@ -224,7 +225,7 @@ pub fn where_text<'a>(site: &'a [u8], steps: &'a [u8], out: &'a mut [u8]) -> Pri
 {
     let read = read_site(site);
     let verdict = read.verdict;
-    if verdict.number() != 0 {
+    if verdict.number() != Paper::DONE {
         return print_places(&[], out);
     }
     let fresh = read.record;

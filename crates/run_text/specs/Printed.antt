@@ -4,6 +4,7 @@ use mathlib.Core.Bool.{Bool, true, false, cond}
 use mathlib.Core.List.{List, [], _∷_, _++_}
 use lib.ListN.{length, take}
 use lib.Dec.{eqb}
+use Rattle.numbers.specs.Numbers.{doneNo, tooLongNo, badFormNo}
 use Rattle.text.specs.Text.{rowOfNumbers}
 use Rattle.record.specs.declared.record.Record.{Record}
 use Rattle.record.specs.Run.{Reply, lastOf, repliesOf}
@@ -43,7 +44,7 @@ repliesFrom (a ∷ answers) (p ∷ phases) (why ∷ reasons) =
 -- "A row of form 2 is printed `row,2,0,0` and ends the run."
 abbrev pub lastRow : Bool → ℕ → List ℕ
 lastRow true n = []
-lastRow false n = panelRow n 2 0 0
+lastRow false n = panelRow n badFormNo 0 0
 
 -- the text of a run: its replies, and the row of bad form that ended it, if one did
 unfoldable pub runText : List Reply → Bool → List ℕ
@@ -63,14 +64,14 @@ ranText r steps = runText (repliesOf r (steps .rows)) (steps .whole)
 
 -- "A wrong header is `0,2,0,0`, a long steps sheet `0,1,0,0`"
 abbrev pub stepsText : Record → List ℕ → Heading → List ℕ
-stepsText r steps TooLong = aloneText 1
-stepsText r steps Wrong = aloneText 2
+stepsText r steps TooLong = aloneText tooLongNo
+stepsText r steps Wrong = aloneText badFormNo
 stepsText r steps (Rows from) = ranText r (stepsFrom steps from)
 
 -- "and a refused site sheet `0,N,0,0` with its number; .. the site's before the steps'"
 abbrev pub siteText : SiteRead → List ℕ → List ℕ
 siteText read steps =
-    cond (eqb (verdictNo (read .verdict)) 0) (stepsText (read .«record») steps (headingOf steps)) (aloneText (verdictNo (read .verdict)))
+    cond (eqb (verdictNo (read .verdict)) doneNo) (stepsText (read .«record») steps (headingOf steps)) (aloneText (verdictNo (read .verdict)))
 
 -- What `panel` prints.
 unfoldable pub panelText : List ℕ → List ℕ → List ℕ
@@ -97,7 +98,7 @@ lastRecord r steps (Rows from) = lastOf r (stepsFrom steps from .rows)
 -- "with a refused site sheet it prints only the header"
 abbrev pub siteWhere : SiteRead → List ℕ → List ℕ
 siteWhere read steps =
-    cond (eqb (verdictNo (read .verdict)) 0) (recordText (lastRecord (read .«record») steps (headingOf steps))) (placesText [])
+    cond (eqb (verdictNo (read .verdict)) doneNo) (recordText (lastRecord (read .«record») steps (headingOf steps))) (placesText [])
 
 -- What `where` prints.
 unfoldable pub whereText : List ℕ → List ℕ → List ℕ

@@ -6,6 +6,7 @@ use mathlib.Core.List.{List}
 use lib.ListN.{length}
 use lib.Seq.{sets}
 use lib.Dec.{leb}
+use Rattle.numbers.specs.Numbers.{doneNo, tooShortNo}
 use Rattle.text.specs.declared.printed.Printed.{Printed}
 use Rattle.text.specs.declared.printed.Printed.the-variants.{Text, TooShort}
 
@@ -27,5 +28,5 @@ pub record Prints (text before : List ℕ) (told : Printed) (after : List ℕ) :
 
 -- 13: "list lent .. is shorter"
 abbrev pub printedNo : Printed → ℕ
-printedNo (Text n) = 0
-printedNo TooShort = 13
+printedNo (Text n) = doneNo
+printedNo TooShort = tooShortNo

@@ -1,6 +1,7 @@
 // What became of a text.
 ghost use mathlib.Core.Path.{_≡_};
 ghost use Rattle.text.specs.Printed.{printedNo};
+use numbers::Paper;
 
 pub enum Printed {
     // so many bytes at the front of the lent list are the text
@@ -15,8 +16,8 @@ impl Printed {
         ensures { λ r. ⌜ r ≡ printedNo self ⌝ }
     {
         match self {
-            Printed::Text(_) => 0,
-            Printed::TooShort => 13,
+            Printed::Text(_) => Paper::DONE,
+            Printed::TooShort => Paper::TOO_SHORT,
         }
     }
 }
