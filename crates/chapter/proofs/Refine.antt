@@ -1,7 +1,7 @@
 -- Each machine of the chapter refines the one before, and so a step of it is a step of that one. Assumes nothing.
 use Prim.Native.Nat.{ℕ}
-use mathlib.Core.Path.{_≡_, refl, sym, _∙_}
-use mathlib.Core.Logic.{inl, inr, ⊎-map, _↔_, Iff·rfl, Iff·trans}
+use mathlib.Core.Path.{_≡_, refl, sym, subst, _∙_}
+use mathlib.Core.Logic.{inl, inr, ⊎-map, ⊎-elim, _↔_, Iff·rfl, Iff·trans}
 use Rattle.chapter.specs.Sets.{Set, Relation, _∪_, _≐_}
 use Rattle.chapter.specs.Context.{Constants, Axioms}
 use Rattle.chapter.specs.Machines.{Names, State, Same, Machine, Move, event, skip, seen, MachineStep, Keeps, Refines}
@@ -207,6 +207,18 @@ module _ (c : Constants) (ax : Axioms c) where
             (kept _) (kept _) (kept2 _) (kept2 _),
       )
       simulates s (m4.ACKN d) b inv g = (g, alike3 _ _ (still _) (kept _) (kept _) (kept _) (kept _) (kept2 _) (kept2 _))
+
+  -- whoever could pass in the first refinement has a grant, or is accepted at a door that leads there, unless a light is on there
+  pub pass-not-less-often : (s : State m2.names) → m2.Inv c s → ((p d : ℕ) → m2.Guard c s (m2.accept p d) → ⊥) → ((p d : ℕ) → m2.Guard c s (m2.pass p d) → ⊥)
+      → ((d : ℕ) → m2.Guard c s (m2.off-red d) → ⊥) → (p l : ℕ) → m1.Guard c (m2.see s) (m1.pass p l) → ⊥
+  pass-not-less-often s inv no-accept no-pass no-off p l g =
+      let way = ax .axm2-3 (s .sit p) l .0 (g .1) in
+      let d = way .0 in
+      let granted : (q e : ℕ) → s .map m2.dap q e → ⊥ = λ q e has. no-pass q e (inv .inv2-6 e .1 (q, has), has) in
+      let unlit : (s .set m2.grn ∪ s .set m2.red) d → ⊥ = ⊎-elim (λ lit. let who = inv .inv2-6 d .0 lit in granted (who .0) d (who .1)) (no-off d) in
+      let may : c .aut p (c .dst d) = subst (c .aut p) (sym (way .3)) (g .0) in
+      no-accept p d
+      (ax .axm0-1 p l (g .0) .0, way .1, unlit, record { situated = sym (way .2); authorized = may; uninvolved = λ has. granted p (has .0) (has .1) })
 
 -- ---- what a refinement gives
 

@@ -5,7 +5,8 @@
 --     refusal-alters-nothing, stands-for-one, idle-stands-for-none
 --     denial-first                                    the reason told is the first conjunct that fails
 --     constants-obey, invariants-hold                 every axiom and every invariant holds of every sound record
---     the-chapter                                     each machine keeps its invariants and refines the one before
+--     the-chapter                                     each machine keeps its invariants and refines the one before, and pass happens
+--                                                     no less often in the second refinement than in the first
 --     starts-each                                     the initial state reads as that of each machine before
 --     panel-runs                                      a run of the panel is row by row a run of each machine, down to the initial model
 --     nobody-astray                                   FUN-3
@@ -13,6 +14,7 @@
 --     pass-goes-on                                    the first refinement never comes to a halt
 --     everybody-gets-in                               axm1-7
 --     open-for-one                                    FUN-4: a turnstile is open for one accepted person and else blocked
+--     one-light                                       EQP-3: no door has both its lights on
 --     no-door-stuck                                   at each door some event is enabled and some step acts
 -- Assumes nothing.
 use Prim.Native.Nat.{ℕ}
@@ -33,6 +35,7 @@ use Rattle.record.specs.Steps.{stepOf}
 use Rattle.record.specs.Run.{lastOf}
 use Rattle.phases.specs.Kinds.{StepRow}
 use Rattle.record.proofs.Laws.{refused-stays}
+use Rattle.chapter.specs.Sets.{Empty, _∩_}
 use Rattle.chapter.specs.Context.{Constants, Axioms, SAF-1, SAF-2, SAF-3, Leads}
 use Rattle.chapter.specs.Machines.{State, Same}
 use Rattle.chapter.specs.Whole.{Chapter}
@@ -112,6 +115,7 @@ the-chapter c ax =
       M2-refines-M1 = refine.M2-refines-M1 c ax;
       M3-refines-M2 = refine.M3-refines-M2 c ax;
       M4-refines-M3 = refine.M4-refines-M3 c ax;
+      pass-not-less-often = refine.pass-not-less-often c ax;
     }
 
 -- A record that reads as the initial state of the fourth refinement reads as that of each machine before.
@@ -166,6 +170,12 @@ open-for-one c s all d g =
     let inv2 = all .0 .0 .1 in
     let who = inv2 .inv2-6 d .0 (inl (all .1 .inv4-4 d g)) in
     (who .0, who .1, inv2 .inv2-2 (who .0) d (who .1), inv2 .inv2-3 (who .0) d (who .1), λ q m. inv2 .inv2-1 .back q (who .0) d m (who .1))
+
+-- EQP-3: no door has both its lights on.
+pub one-light : (c : Constants) (s : State m4.names) → m4.All c s → Empty (s .set m4.GRN ∩ s .set m4.RED)
+one-light c s all d lit =
+    let inv4 = all .1 in
+    all .0 .0 .1 .inv2-7 d (inv4 .inv4-1 d .0 (inl (inv4 .inv4-4 d (lit .0))), inv4 .inv4-5 d .0 (inl (inv4 .inv4-7 d (lit .1))))
 
 -- At each door of a sound record an event of that very door is enabled, and some step at it acts and alters the record.
 pub no-door-stuck : (r : Record) → Shaped r → Sound r → (d : ℕ) → constantsOf r .D d → Live r d
