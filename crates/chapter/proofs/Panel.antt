@@ -23,11 +23,12 @@ use Rattle.chapter.specs.M2 as m2
 use Rattle.chapter.specs.M3 as m3
 use Rattle.chapter.specs.M4 as m4
 use Rattle.chapter.specs.Reading.{constantsIn, constantsOf, stateOf, stateOf3, stateOf2, stateOf1, Enabled, Idle}
-use Rattle.chapter.specs.Panel.{MoveOf, done, idle, refused, move3, move2, move1, move0, StepOfEach, RunOfEach, stop, step}
+use Rattle.chapter.specs.Panel.{MoveOf, done, idle, refused, move3, move2, move1, move0, StepOfEach, OneMove, RunOfEach, stop, step}
 use Rattle.chapter.proofs.Site.{axioms}
 use Rattle.chapter.proofs.Invariants.{inv0, inv2, inv3, inv4}
 use Rattle.chapter.proofs.Refine.{same-refl, M1-keeps, M1-refines-M0, M2-refines-M1, M3-refines-M2, M4-refines-M3, keeps-on, step-seen}
 use Rattle.chapter.proofs.Steps.{follows, enabled, by-tick}
+use Rattle.chapter.proofs.Stands.{stands-once, idle-stands}
 
 -- ---- the invariants
 
@@ -92,6 +93,18 @@ each-step r next o s fourth = record { fourth = fourth; third = third; second = 
 
     initial : MachineStep (m0.machine (constantsOf r)) (stateOf1 r) (move0 (constantsOf r) o) (stateOf1 next)
     initial = step-seen (M1-refines-M0 _ ax) (stateOf1 r) (stateOf1 next) (move1 (constantsOf r) o) (all-of r s .0 .0 .0, tt) first
+
+-- no row is two moves
+pub only-move : (r : Record) (row : StepRow) → OneMove r row
+only-move r row o u (done e a st) x (done f b sf) y = ap event (stands-once r (row .kind) (row .at) (row .person) e f st (x .fourth .0) sf (y .fourth .0))
+only-move r row o u (done e a st) x (idle i) y = absurd (idle-stands r (row .kind) (row .at) (row .person) e i st)
+only-move r row o u (done e a st) x (refused ne) y = absurd (ne a)
+only-move r row o u (idle i) x (done f b st) y = absurd (idle-stands r (row .kind) (row .at) (row .person) f i st)
+only-move r row o u (idle i) x (idle j) y = refl
+only-move r row o u (idle i) x (refused ne) y = refl
+only-move r row o u (refused ne) x (done f b st) y = absurd (ne b)
+only-move r row o u (refused ne) x (idle i) y = refl
+only-move r row o u (refused ne) x (refused nf) y = refl
 
 -- a step leaves the constants as they were
 constants-stay : (r : Record) (k : Kind) (d p : ℕ) → constantsOf (stepOf r k d p .next) ≡ constantsOf r

@@ -9,6 +9,7 @@
 --                                                     no less often in the second refinement than in the first
 --     starts-each                                     the initial state reads as that of each machine before
 --     panel-runs                                      a run of the panel is row by row a run of each machine, down to the initial model
+--     one-move-a-row                                  the event that a row stands for, or that it is nothing, is one alone
 --     nobody-astray                                   FUN-3
 --     nobody-blocked, nobody-confined, led-outside    SAF-1 to SAF-3
 --     pass-goes-on                                    the first refinement never comes to a halt
@@ -35,7 +36,6 @@ use Rattle.record.specs.Steps.{stepOf}
 use Rattle.record.specs.Run.{lastOf}
 use Rattle.phases.specs.Kinds.{StepRow}
 use Rattle.record.proofs.Laws.{refused-stays}
-use Rattle.chapter.specs.Sets.{Empty, _∩_}
 use Rattle.chapter.specs.Context.{Constants, Axioms, SAF-1, SAF-2, SAF-3, Leads}
 use Rattle.chapter.specs.Machines.{State, Same}
 use Rattle.chapter.specs.Whole.{Chapter}
@@ -46,7 +46,7 @@ use Rattle.chapter.specs.M3 as m3
 use Rattle.chapter.specs.M3.{dap}
 use Rattle.chapter.specs.M4 as m4
 use Rattle.chapter.specs.Reading.{constantsOf, stateOf, stateOf3, stateOf2, StandsFor, Enabled, Idle, FirstFailing}
-use Rattle.chapter.specs.Panel.{StartOfEach, RunOfEach, Live}
+use Rattle.chapter.specs.Panel.{StartOfEach, OneMove, RunOfEach, Live}
 use Rattle.chapter.proofs.Site.{axioms, saf-1, saf-2, saf-3, way-leads}
 use Rattle.chapter.proofs.Steps.{follows, enabled, ticks}
 use Rattle.chapter.proofs.Stands.{stands-once, idle-stands, live, fresh-starts, first-failing}
@@ -130,6 +130,10 @@ starts-each r s fourth =
 pub panel-runs : (r : Record) → Shaped r → Sound r → (rows : List StepRow) → RunOfEach (constantsOf r) r rows
 panel-runs r sh s rows = panel.runs r rows sh s
 
+-- No row is two moves.
+pub one-move-a-row : (r : Record) (row : StepRow) → OneMove r row
+one-move-a-row = panel.only-move
+
 -- ---- safety
 
 -- FUN-3: "A person which is in a location must be authorized to be there", after any list of steps.
@@ -172,7 +176,7 @@ open-for-one c s all d g =
     (who .0, who .1, inv2 .inv2-2 (who .0) d (who .1), inv2 .inv2-3 (who .0) d (who .1), λ q m. inv2 .inv2-1 .back q (who .0) d m (who .1))
 
 -- EQP-3: no door has both its lights on.
-pub one-light : (c : Constants) (s : State m4.names) → m4.All c s → Empty (s .set m4.GRN ∩ s .set m4.RED)
+pub one-light : (c : Constants) (s : State m4.names) → m4.All c s → m4.EQP-3 s
 one-light c s all d lit =
     let inv4 = all .1 in
     all .0 .0 .1 .inv2-7 d (inv4 .inv4-1 d .0 (inl (inv4 .inv4-4 d (lit .0))), inv4 .inv4-5 d .0 (inl (inv4 .inv4-7 d (lit .1))))

@@ -135,3 +135,7 @@ see s = record { sit = s .sit; set = setMadeOf (s .set); map = s .map }
 -- the invariants of this machine and of those before
 abbrev pub All : Constants → State names → Type 0
 All c s = m3.All c (see s) × Inv (see s) s
+
+-- EQP-3: "Each card reader has two lights: one green light and one red light", of which one is on at most
+abbrev pub EQP-3 : State names → Type 0
+EQP-3 s = Empty (s .set GRN ∩ s .set RED)

@@ -57,6 +57,12 @@ pub record StepOfEach (c : Constants) (r : Record) (o : Move Event) (next : Reco
   pub first : MachineStep (m1.machine c) (stateOf1 r) (move1 c o) (stateOf1 next)
   pub initial : MachineStep (m0.machine c) (stateOf1 r) (move0 c o) (stateOf1 next)
 
+-- No row is two moves.
+abbrev pub OneMove : Record → StepRow → Type 0
+OneMove r row =
+    (o u : Move Event) → MoveOf r row o → StepOfEach (constantsOf r) r o (rowOf r row .next) → MoveOf r row u → StepOfEach (constantsOf r) r u (rowOf r row .next)
+    → o ≡ u
+
 -- The steps of a list from record r on are a run of each machine: row by row the move that the row's step is, to what the record
 -- after it reads as.
 pub data RunOfEach (c : Constants) : Record → List StepRow → Type 0 where

@@ -36,7 +36,7 @@ use Rattle.chapter.specs.M4.{Event}
 use Rattle.chapter.specs.M4 as m4
 use Rattle.chapter.specs.Whole.{Chapter}
 use Rattle.chapter.specs.Reading.{constantsOf, stateOf, StandsFor, Enabled, Idle, FirstFailing}
-use Rattle.chapter.specs.Panel.{StartOfEach, RunOfEach, Live}
+use Rattle.chapter.specs.Panel.{StartOfEach, OneMove, RunOfEach, Live}
 use Rattle.run_events.specs.Lines.{heardOf}
 use Rattle.demands.specs.Cases.{freshSite}
 use Rattle.demands.specs.WholeRun.{runOf01, rowsHeard}
@@ -143,6 +143,7 @@ pub record DemandTwo : Type 1 where
   pub invariants : (r : Record) → Sound r → m4.All (constantsOf r) (stateOf r)
   pub starts : (s : List ℕ) → siteOf s .verdict ≡ Accepted → StartOfEach (siteOf s .«record»)
   pub runs : (r : Record) → Shaped r → Sound r → (rows : List StepRow) → RunOfEach (constantsOf r) r rows
+  pub one-move : (r : Record) (row : StepRow) → OneMove r row
   -- and each door has an event that is enabled, and a step that acts and alters the record
   pub no-door-stuck : (r : Record) → Shaped r → Sound r → (d : ℕ) → d < r .doors → Live r d
   -- "a panel that refuses everything, one that gives one light always": on 01's site the steps of 01's run are answered as 01 prints
