@@ -127,7 +127,11 @@ module _ (r : Record) (sh : Shaped r) (s : Sound r) (d : ℕ) (h : d < r .doors)
 
   pub live : Live r d
   unfolding isIn allows effect orElse
-  live = ⊎-elim (λ is. phase-moves (CARD 0 d) refl (s .tables .in-range .people-from, h, λ b. in-BLR r d b is) Card free is refl (λ e. omega arith)) (λ is-not. go (four r d s (blocked r d h is-not))) (same-or-not (getD (r .phase) d 0) free)
+  live =
+      ⊎-elim
+      (λ is. phase-moves (CARD 0 d) refl (s .tables .in-range .people-from, h, λ b. in-BLR r d b is) Card free is refl (λ e. omega arith))
+      (λ is-not. go (four r d s (blocked r d h is-not)))
+      (same-or-not (getD (r .phase) d 0) free)
     where
       accepted : DoorIn r mAccept d → (getD (r .phase) d 0 ≡ granted) ⊎ (getD (r .phase) d 0 ≡ green) → Live r d
       accepted x (inl at) = phase-moves (ACCEPT d) refl x Green granted at refl (λ e. omega arith)

@@ -41,8 +41,6 @@ use Rattle.chapter.specs.Machines.{State, Same}
 use Rattle.chapter.specs.Whole.{Chapter}
 use Rattle.chapter.specs.M0 as m0
 use Rattle.chapter.specs.M1 as m1
-use Rattle.chapter.specs.M2 as m2
-use Rattle.chapter.specs.M3 as m3
 use Rattle.chapter.specs.M3.{dap}
 use Rattle.chapter.specs.M4 as m4
 use Rattle.chapter.specs.Reading.{constantsOf, stateOf, stateOf3, stateOf2, StandsFor, Enabled, Idle, FirstFailing}
