@@ -6,8 +6,8 @@
 --     Invariants   every invariant holds of every sound record's reading
 --     Turn         what the reading says of a door that was put anew
 --     Steps        each step of the panel is an event of the fourth refinement
---     Stands       which event a step stands for; the fresh record; what a decision tells
---     Panel        a run of the panel is a run of each machine
+--     Stands       which event a step stands for; no door is stuck; the fresh record; what a decision tells
+--     Panel        a run of the panel is, row by row, a run of each machine
 pub mod Algebra
 pub mod Kept
 pub mod Refine

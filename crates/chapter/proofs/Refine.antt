@@ -1,10 +1,10 @@
--- Each machine of the chapter refines the one before, and so a run of it is a run of that one. Assumes nothing.
+-- Each machine of the chapter refines the one before, and so a step of it is a step of that one. Assumes nothing.
 use Prim.Native.Nat.{ℕ}
-use mathlib.Core.Path.{_≡_, refl, sym, _∙_}
-use mathlib.Core.Logic.{inl, inr, ⊎-map, _↔_, Iff·rfl, Iff·trans}
+use mathlib.Core.Path.{_≡_, refl, sym, subst, _∙_}
+use mathlib.Core.Logic.{inl, inr, ⊎-map, ⊎-elim, _↔_, Iff·rfl, Iff·trans}
 use Rattle.chapter.specs.Sets.{Set, Relation, _∪_, _≐_}
 use Rattle.chapter.specs.Context.{Constants, Axioms}
-use Rattle.chapter.specs.Machines.{Names, State, Same, Machine, Origin, new, refines, Seen, Keeps, Refines, MachineStep, event, skip, Run, stop, step}
+use Rattle.chapter.specs.Machines.{Names, State, Same, Machine, Move, event, skip, seen, MachineStep, Keeps, Refines}
 use Rattle.chapter.specs.M0 as m0
 use Rattle.chapter.specs.M1 as m1
 use Rattle.chapter.specs.M2 as m2
@@ -83,7 +83,7 @@ module _ (c : Constants) (ax : Axioms c) where
         inv-same = λ s t m i. tt;
       }
     where
-      simulates : (s : State m0.names) (e : m1.Event) → m0.Inv c s → Unit {0} → m1.Guard c s e → Seen (m0.machine c) s (m1.action c s e) (m1.from e)
+      simulates : (s : State m0.names) (e : m1.Event) → m0.Inv c s → Unit {0} → m1.Guard c s e → MachineStep (m0.machine c) s (m1.from e) (m1.action c s e)
       simulates s (m1.pass p l) b i g = ((g .0, λ is. ax .axm1-2 (s .sit p) l (g .1) is), same-refl _)
 
   pub M2-refines-M1 : Refines (m1.machine c) (m2.machine c) m2.see (m2.from c) (m0.Inv c) (m2.Inv c)
@@ -98,7 +98,7 @@ module _ (c : Constants) (ax : Axioms c) where
       }
     where
       simulates : (s : State m2.names) (e : m2.Event) → m0.Inv c (m2.see s) → m2.Inv c s → m2.Guard c s e
-          → Seen (m1.machine c) (m2.see s) (m2.see (m2.action c s e)) (m2.from c e)
+          → MachineStep (m1.machine c) (m2.see s) (m2.from c e) (m2.see (m2.action c s e))
       simulates s (m2.accept p d) b inv g = same-refl _
       simulates s (m2.refuse p d) b inv g = same-refl _
       simulates s (m2.pass p d) b inv g =
@@ -124,7 +124,7 @@ module _ (c : Constants) (ax : Axioms c) where
       unlit s inv p d card (inr g) = inv .inv3-5 d ((p, card), inr (inl g))
 
       simulates : (s : State m3.names) (e : m3.Event) → m2.All c (m3.see s) → m3.Inv c s → m3.Guard c s e
-          → Seen (m2.machine c) (m3.see s) (m3.see (m3.action c s e)) (m3.from e)
+          → MachineStep (m2.machine c) (m3.see s) (m3.from e) (m3.see (m3.action c s e))
       simulates s (m3.CARD p d) b inv g = alike2 _ _ (still _) (kept _) (kept _) (kept2 _)
       simulates s (m3.accept p d) b inv g =
           let at = inv .inv3-2 .between d p (g .0) in
@@ -160,7 +160,7 @@ module _ (c : Constants) (ax : Axioms c) where
       starts s h m3.mAckn x a = h .sets m4.mAckn x a
 
       simulates : (s : State m4.names) (e : m4.Event) → m3.All c (m4.see s) → m4.Inv (m4.see s) s → m4.Guard c s e
-          → Seen (m3.machine c) (m4.see s) (m4.see (m4.action c s e)) (m4.from e)
+          → MachineStep (m3.machine c) (m4.see s) (m4.from e) (m4.see (m4.action c s e))
       simulates s (m4.CARD p d) b inv g = (g, alike3 _ _ (still _) (kept _) (kept _) (kept _) (kept _) (kept2 _) (kept2 _))
       simulates s (m4.accept p d) b inv g = (
         g,
@@ -208,6 +208,18 @@ module _ (c : Constants) (ax : Axioms c) where
       )
       simulates s (m4.ACKN d) b inv g = (g, alike3 _ _ (still _) (kept _) (kept _) (kept _) (kept _) (kept2 _) (kept2 _))
 
+  -- whoever could pass in the first refinement has a grant, or is accepted at a door that leads there, unless a light is on there
+  pub pass-not-less-often : (s : State m2.names) → m2.Inv c s → ((p d : ℕ) → m2.Guard c s (m2.accept p d) → ⊥) → ((p d : ℕ) → m2.Guard c s (m2.pass p d) → ⊥)
+      → ((d : ℕ) → m2.Guard c s (m2.off-red d) → ⊥) → (p l : ℕ) → m1.Guard c (m2.see s) (m1.pass p l) → ⊥
+  pass-not-less-often s inv no-accept no-pass no-off p l g =
+      let way = ax .axm2-3 (s .sit p) l .0 (g .1) in
+      let d = way .0 in
+      let granted : (q e : ℕ) → s .map m2.dap q e → ⊥ = λ q e has. no-pass q e (inv .inv2-6 e .1 (q, has), has) in
+      let unlit : (s .set m2.grn ∪ s .set m2.red) d → ⊥ = ⊎-elim (λ lit. let who = inv .inv2-6 d .0 lit in granted (who .0) d (who .1)) (no-off d) in
+      let may : c .aut p (c .dst d) = subst (c .aut p) (sym (way .3)) (g .0) in
+      no-accept p d
+      (ax .axm0-1 p l (g .0) .0, way .1, unlit, record { situated = sym (way .2); authorized = may; uninvolved = λ has. granted p (has .0) (has .1) })
+
 -- ---- what a refinement gives
 
 same-trans : {n : Names} {s t u : State n} → Same s t → Same t u → Same s u
@@ -218,35 +230,27 @@ same-trans a b =
       map = λ f x y. Iff·trans (a .map f x y) (b .map f x y);
     }
 
-seen-step : (m : Machine) (s t u : State (m .names)) (o : Origin (m .Event)) → Seen m s u o → Same t u → MachineStep m s t
-seen-step m s t u new seen same = skip (same-trans same seen)
-seen-step m s t u (refines e) seen same = event e (seen .0) (same-trans same (seen .1))
+after-same : (m : Machine) (s t u : State (m .names)) (o : Move (m .Event)) → MachineStep m s o u → Same t u → MachineStep m s o t
+after-same m s t u (event e) by same = (by .0, same-trans same (by .1))
+after-same m s t u skip by same = same-trans same by
 
-seen-inv : (m : Machine) (Inv : State (m .names) → Type 0) → Keeps m Inv → (s u : State (m .names)) (o : Origin (m .Event)) → Seen m s u o → Inv s → Inv u
-seen-inv m Inv k s u new seen i = k .same s u seen i
-seen-inv m Inv k s u (refines e) seen i = k .same (m .action s e) u (seen .1) (k .keeps s e i (seen .0))
+step-keeps : (m : Machine) (Inv : State (m .names) → Type 0) → Keeps m Inv → (s u : State (m .names)) (o : Move (m .Event)) → MachineStep m s o u → Inv s → Inv u
+step-keeps m Inv k s u (event e) by i = k .same (m .action s e) u (by .1) (k .keeps s e i (by .0))
+step-keeps m Inv k s u skip by i = k .same s u by i
 
-module _ {a c : Machine} {see : State (c .names) → State (a .names)} {from : c .Event → Origin (a .Event)} {Before : State (a .names) → Type 0}
-    {Inv : State (c .names) → Type 0} (k : Keeps a Before) (r : Refines a c see from Before Inv) where
+module _ {a c : Machine} {see : State (c .names) → State (a .names)} {from : c .Event → Move (a .Event)} {Before : State (a .names) → Type 0}
+    {Inv : State (c .names) → Type 0} (r : Refines a c see from Before Inv) where
   -- the invariants of both machines hold in every state of the refined one
-  pub keeps-on : Keeps c (λ s. Before (see s) × Inv s)
-  keeps-on =
+  pub keeps-on : Keeps a Before → Keeps c (λ s. Before (see s) × Inv s)
+  keeps-on k =
       record {
         starts = λ s h. (k .starts (see s) (r .starts s h), r .begins s h);
-        keeps = λ s e i g. (seen-inv a Before k (see s) (see (c .action s e)) (from e) (r .simulates s e (i .0) (i .1) g) (i .0), r .keeps s e (i .0) (i .1) g);
+        keeps = λ s e i g. (step-keeps a Before k (see s) (see (c .action s e)) (from e) (r .simulates s e (i .0) (i .1) g) (i .0), r .keeps s e (i .0) (i .1) g);
         same = λ s t m i. (k .same (see s) (see t) (r .see-same s t m) (i .0), r .inv-same s t m (i .1));
       }
 
-  step-seen : (s t : State (c .names)) → Before (see s) × Inv s → MachineStep c s t → MachineStep a (see s) (see t)
-  step-seen s t i (event e g m) =
-      seen-step a (see s) (see t) (see (c .action s e)) (from e) (r .simulates s e (i .0) (i .1) g) (r .see-same (c .action s e) t m)
-  step-seen s t i (skip m) = skip (r .see-same s t m)
-
-  -- a run of the refined machine, seen through `see`, is a run of the one before
-  pub run-seen : {s : State (c .names)} {t : State (c .names)} → Before (see s) × Inv s → Run c s t → Run a (see s) (see t)
-  run-seen i stop = stop
-  run-seen {s} i (step {t} e run) = step (step-seen s t i e) (run-seen (step-keeps t e) run)
-    where
-      step-keeps : (t : State (c .names)) → MachineStep c s t → Before (see t) × Inv t
-      step-keeps t (event e g m) = keeps-on .same (c .action s e) t m (keeps-on .keeps s e i g)
-      step-keeps t (skip m) = keeps-on .same s t m i
+  -- a step of the refined machine, seen through `see`, is a step of the one before
+  pub step-seen : (s t : State (c .names)) (o : Move (c .Event)) → Before (see s) × Inv s → MachineStep c s o t → MachineStep a (see s) (seen from o) (see t)
+  step-seen s t (event e) i by =
+      after-same a (see s) (see t) (see (c .action s e)) (from e) (r .simulates s e (i .0) (i .1) (by .0)) (r .see-same (c .action s e) t (by .1))
+  step-seen s t skip i by = r .see-same s t by

@@ -5,30 +5,34 @@ use mathlib.Core.Bool.{Bool, true, false, false≢true}
 use mathlib.Core.Logic.{_⊎_, inl, inr, ⊎-elim}
 use mathlib.Core.List.{List}
 use native.Mathlib.Omega.{arith}
-use borrow.Author.Tests.{eqb-true, eq-eqb}
+use borrow.Author.Tests.{eqb-true, eqb-false, eq-eqb, ltb-true}
 use lib.ListN.{getD}
+use lib.Dec.{eqb, ltb}
 use Rattle.tables.specs.Tables.{Plan, orElse, andAlso}
 use Rattle.door.specs.declared.Door.{Door}
 use Rattle.record.specs.declared.record.Record.{Record}
 use Rattle.phases.specs.declared.table.Kind.{Kind}
-use Rattle.phases.specs.declared.table.Kind.the-variants.{Decide}
+use Rattle.phases.specs.declared.table.Kind.the-variants.{Card, Decide, Green, Red, Walk, Tick, Passed, Lapsed, Dark, Ack}
 use Rattle.phases.specs.declared.answer.Answer.the-variants.{Done}
-use Rattle.phases.specs.Phase.{free, read, grants, keeps}
-use Rattle.record.specs.Doors.{freshRecord, Shaped}
+use Rattle.phases.specs.Phase.{free, read, granted, green, walked, expired, denied, red, dimmed, closed, grants, keeps}
+use Rattle.record.specs.Doors.{freshRecord, doorOf, Shaped}
 use Rattle.phases.specs.Kinds.{allows, numberOfKind}
 use Rattle.record.specs.Sound.{Sound}
-use Rattle.record.specs.Steps.{First, stepOf}
-use Rattle.tables.proofs.Cases.{same-or-not}
-use Rattle.record.proofs.Laws.{Allowed, done-did, denied-first}
+use Rattle.door.specs.declared.does.Does.{Does}
+use Rattle.door.specs.Does.{effect}
+use Rattle.record.specs.Steps.{First, doing, reasonFor, stepOf}
+use Rattle.tables.proofs.Cases.{same-or-not, one-of, either}
+use Rattle.record.proofs.Laws.{Allowed, done-did, denied-first, becomes, door-after}
 use Rattle.record.proofs.Fresh.{fresh-free, fresh-outside}
 use Rattle.chapter.specs.Sets.{dom, _∪_}
 use Rattle.chapter.specs.M3 as m3
 use Rattle.chapter.specs.M3.{Maps, dap, mCard}
 use Rattle.chapter.specs.M4 as m4
-use Rattle.chapter.specs.M4.{Sets, mAckn}
-use Rattle.chapter.specs.M4.{Event, CARD, pass, ACCEPT, off-grn, REFUSE, off-red, ACKN}
+use Rattle.chapter.specs.M4.{Sets, mAckn, mAccept, mRefuse}
+use Rattle.chapter.specs.M4.{Event, CARD, pass, ACCEPT, PASS, off-grn, REFUSE, OFF-RED, off-red, ACKN}
 use Rattle.chapter.specs.Reading.{constantsOf, isIn, DoorIn, CardAt, stateOf, stateOf3, StandsFor, Enabled, Idle, FirstFailing}
 use Rattle.chapter.specs.Reading.{card, grant, denial, green-order, walk, expiry, passage, lapse, red-order, dimming, darkness, acknowledgement}
+use Rattle.chapter.specs.Panel.{doorAt, Live}
 use Rattle.chapter.proofs.Invariants.{in-BLR, in-grn, grants-of, blocked, four}
 use Rattle.chapter.proofs.Turn.{each}
 use Rattle.chapter.proofs.Steps.{does, enabled}
@@ -70,26 +74,87 @@ idle-stands r k d p e i (dimming at last) = omega (arith, i .red-on at)
 idle-stands r k d p e i darkness = omega (arith, ap numberOfKind (i .tick))
 idle-stands r k d p e i acknowledgement = omega (arith, ap numberOfKind (i .tick))
 
--- ---- at every door some event is enabled
+-- ---- no door is stuck
 
-pub some-event : (r : Record) → Shaped r → Sound r → (d : ℕ) → d < r .doors → (e : Event) × m4.Guard (constantsOf r) (stateOf r) e
-unfolding isIn allows
-some-event r sh s d h = ⊎-elim (λ is. (CARD 0 d, (s .tables .in-range .people-from, h, λ b. in-BLR r d b is))) (λ is-not. go (four r d s (blocked r d h is-not))) (same-or-not (getD (r .phase) d 0) free)
-  where
-    decides : Enabled r Decide d 0 ⊎ Idle r Decide d → (e : Event) × m4.Guard (constantsOf r) (stateOf r) e
-    decides (inl e) = (e .event, e .guard)
-    decides (inr i) = absurd (omega (arith, ap numberOfKind (i .tick)))
+module _ (r : Record) (sh : Shaped r) (s : Sound r) (d : ℕ) (h : d < r .doors) where
+  -- a step that the door's phase allows, and that leaves it another door
+  moves-on : (e : Event) → doorAt e ≡ d → m4.Guard (constantsOf r) (stateOf r) e → (k : Kind) → allows k (getD (r .phase) d 0) ≡ true
+      → (doorOf r d ≡ becomes (doorOf r d) (doing r k d 0) → ⊥) → Live r d
+  moves-on e here guard k may other =
+      let acts = does r sh s d 0 k h (λ _. s .tables .in-range .people-from) may in
+      record {
+        happens = e;
+        here = here;
+        guard = guard;
+        kind = k;
+        person = 0;
+        acts = acts;
+        alters = λ same. other (sym (ap (λ (x : Record). doorOf x d) same) ∙ door-after r k d 0 sh s acts);
+      }
 
-    go : (dom (CardAt r) ∪ stateOf3 r .set m3.grn ∪ stateOf3 r .set m3.red ∪ DoorIn r mAckn) d → (e : Event) × m4.Guard (constantsOf r) (stateOf r) e
-    go (inl x) = decides (enabled r sh s d 0 Decide (does r sh s d 0 Decide h (λ e. absurd (false≢true e)) (eq-eqb _ _ (x .1 .phase))))
-    go (inr (inl (inl x))) = (ACCEPT d, x)
-    go (inr (inl (inr (inl x)))) =
-        let g = grants-of r d (in-grn r d (inr (inl x))) in
-        (pass (getD (r .holder) d 0) d, (x, record { exists = h; holds = g; person = refl }))
-    go (inr (inl (inr (inr x)))) = (off-grn d, x)
-    go (inr (inr (inl (inl x)))) = (REFUSE d, x)
-    go (inr (inr (inl (inr x)))) = (off-red d, x)
-    go (inr (inr (inr x))) = (ACKN d, x)
+  -- such as one that leaves it another phase
+  phase-moves : (e : Event) → doorAt e ≡ d → m4.Guard (constantsOf r) (stateOf r) e → (k : Kind) (a : ℕ) → getD (r .phase) d 0 ≡ a → allows k a ≡ true
+      → (a ≡ becomes (doorOf r d) (doing r k d 0) .phase → ⊥) → Live r d
+  phase-moves e here guard k a at may other =
+      moves-on e here guard k (ap (allows k) at ∙ may) (λ same. other (sym at ∙ ap (λ (x : Door). x .phase) same))
+
+  -- a red light's tick leaves another countdown, or another phase
+  tick-moves : getD (r .phase) d 0 ≡ red → Live r d
+  unfolding isIn effect allows
+  tick-moves at =
+      moves-on (OFF-RED d) refl (record { exists = h; phase = eq-eqb _ _ at }) Tick refl
+      (either Other (eqb (getD (r .phase) d 0) green) (λ is _. let lit = eqb-true (getD (r .phase) d 0) green is in omega arith)
+      (λ _.
+      either Other (eqb (getD (r .phase) d 0) red)
+      (λ _.
+      either Other (ltb 1 (getD (r .count) d 0)) (λ more e. let a = ltb-true 1 (getD (r .count) d 0) more in let b = ap (λ (x : Door). x .count) e in omega arith)
+      (λ _ e. let b = ap (λ (x : Door). x .phase) e in omega arith))
+      (λ is-not _. eqb-false (getD (r .phase) d 0) red is-not at)))
+    where
+      Other : Does → Type 0
+      Other x = doorOf r d ≡ becomes (doorOf r d) x → ⊥
+
+  -- and a decision another phase, whichever it is
+  decision-moves : getD (r .phase) d 0 ≡ read → Enabled r Decide d 0 → Live r d
+  unfolding effect allows
+  decision-moves at e =
+      phase-moves (e .event) (here (e .stands)) (e .guard) Decide read at refl
+      (either (λ x. read ≡ becomes (doorOf r d) x .phase → ⊥) (eqb (reasonFor r d (getD (r .holder) d 0)) 0) (λ _ e. omega arith) (λ _ e. omega arith))
+    where
+      here : {e : Event} → StandsFor r d 0 Decide e → doorAt e ≡ d
+      here grant = refl
+      here denial = refl
+
+  pub live : Live r d
+  unfolding isIn allows effect orElse
+  live =
+      ⊎-elim
+      (λ is. phase-moves (CARD 0 d) refl (s .tables .in-range .people-from, h, λ b. in-BLR r d b is) Card free is refl (λ e. omega arith))
+      (λ is-not. go (four r d s (blocked r d h is-not)))
+      (same-or-not (getD (r .phase) d 0) free)
+    where
+      accepted : DoorIn r mAccept d → (getD (r .phase) d 0 ≡ granted) ⊎ (getD (r .phase) d 0 ≡ green) → Live r d
+      accepted x (inl at) = phase-moves (ACCEPT d) refl x Green granted at refl (λ e. omega arith)
+      accepted x (inr at) = phase-moves (PASS d) refl (record { exists = h; phase = eq-eqb _ _ at }) Walk green at refl (λ e. omega arith)
+
+      refused : DoorIn r mRefuse d → (getD (r .phase) d 0 ≡ denied) ⊎ (getD (r .phase) d 0 ≡ red) → Live r d
+      refused x (inl at) = phase-moves (REFUSE d) refl x Red denied at refl (λ e. omega arith)
+      refused x (inr at) = tick-moves at
+
+      decides : getD (r .phase) d 0 ≡ read → Enabled r Decide d 0 ⊎ Idle r Decide d → Live r d
+      decides at (inl e) = decision-moves at e
+      decides at (inr i) = absurd (omega (arith, ap numberOfKind (i .tick)))
+
+      go : (dom (CardAt r) ∪ stateOf3 r .set m3.grn ∪ stateOf3 r .set m3.red ∪ DoorIn r mAckn) d → Live r d
+      go (inl x) = decides (x .1 .phase) (enabled r sh s d 0 Decide (does r sh s d 0 Decide h (λ e. absurd (false≢true e)) (eq-eqb _ _ (x .1 .phase))))
+      go (inr (inl (inl x))) = accepted x (one-of _ _ _ (x .phase))
+      go (inr (inl (inr (inl x)))) =
+          let g = grants-of r d (in-grn r d (inr (inl x))) in
+          phase-moves (pass (getD (r .holder) d 0) d) refl (x, record { exists = h; holds = g; person = refl }) Passed walked (eqb-true _ _ (x .phase)) refl (λ e. omega arith)
+      go (inr (inl (inr (inr x)))) = phase-moves (off-grn d) refl x Lapsed expired (eqb-true _ _ (x .phase)) refl (λ e. omega arith)
+      go (inr (inr (inl (inl x)))) = refused x (one-of _ _ _ (x .phase))
+      go (inr (inr (inl (inr x)))) = phase-moves (off-red d) refl x Dark dimmed (eqb-true _ _ (x .phase)) refl (λ e. omega arith)
+      go (inr (inr (inr x))) = phase-moves (ACKN d) refl x Ack closed (eqb-true _ _ (x .phase)) refl (λ e. omega arith)
 
 -- ---- the fresh record
 

@@ -5,15 +5,18 @@
 --     refusal-alters-nothing, stands-for-one, idle-stands-for-none
 --     denial-first                                    the reason told is the first conjunct that fails
 --     constants-obey, invariants-hold                 every axiom and every invariant holds of every sound record
---     the-chapter                                     each machine keeps its invariants and refines the one before
---     starts-each                                     the initial state is seen as that of each machine before
---     panel-runs                                      a run of the panel is a run of each machine, down to the initial model
+--     the-chapter                                     each machine keeps its invariants and refines the one before, and pass happens
+--                                                     no less often in the second refinement than in the first
+--     starts-each                                     the initial state reads as that of each machine before
+--     panel-runs                                      a run of the panel is row by row a run of each machine, down to the initial model
+--     one-move-a-row                                  the event that a row stands for, or that it is nothing, is one alone
 --     nobody-astray                                   FUN-3
 --     nobody-blocked, nobody-confined, led-outside    SAF-1 to SAF-3
 --     pass-goes-on                                    the first refinement never comes to a halt
 --     everybody-gets-in                               axm1-7
 --     open-for-one                                    FUN-4: a turnstile is open for one accepted person and else blocked
---     no-door-stuck                                   at every door some event is enabled
+--     one-light                                       EQP-3: no door has both its lights on
+--     no-door-stuck                                   at each door some event is enabled and some step acts
 -- Assumes nothing.
 use Prim.Native.Nat.{ℕ}
 use mathlib.Core.Path.{_≡_, subst}
@@ -38,14 +41,13 @@ use Rattle.chapter.specs.Machines.{State, Same}
 use Rattle.chapter.specs.Whole.{Chapter}
 use Rattle.chapter.specs.M0 as m0
 use Rattle.chapter.specs.M1 as m1
-use Rattle.chapter.specs.M2 as m2
-use Rattle.chapter.specs.M3 as m3
 use Rattle.chapter.specs.M3.{dap}
 use Rattle.chapter.specs.M4 as m4
-use Rattle.chapter.specs.Reading.{constantsOf, stateOf, StandsFor, Enabled, Idle, FirstFailing, RunOfEach}
+use Rattle.chapter.specs.Reading.{constantsOf, stateOf, stateOf3, stateOf2, StandsFor, Enabled, Idle, FirstFailing}
+use Rattle.chapter.specs.Panel.{StartOfEach, OneMove, RunOfEach, Live}
 use Rattle.chapter.proofs.Site.{axioms, saf-1, saf-2, saf-3, way-leads}
 use Rattle.chapter.proofs.Steps.{follows, enabled, ticks}
-use Rattle.chapter.proofs.Stands.{stands-once, idle-stands, some-event, fresh-starts, first-failing}
+use Rattle.chapter.proofs.Stands.{stands-once, idle-stands, live, fresh-starts, first-failing}
 use Rattle.chapter.proofs.Refine as refine
 use Rattle.chapter.proofs.Panel as panel
 
@@ -111,19 +113,24 @@ the-chapter c ax =
       M2-refines-M1 = refine.M2-refines-M1 c ax;
       M3-refines-M2 = refine.M3-refines-M2 c ax;
       M4-refines-M3 = refine.M4-refines-M3 c ax;
+      pass-not-less-often = refine.pass-not-less-often c ax;
     }
 
--- The initial state of the fourth refinement is seen as that of each machine before.
-pub starts-each : (c : Constants) → Axioms c → (s : State m4.names) → m4.Start c s
-    → m3.Start c (m4.see s) × m2.Start c (m3.see (m4.see s)) × m0.Start c (m2.see (m3.see (m4.see s)))
-starts-each c ax s h =
-    let third = refine.M4-refines-M3 c ax .starts s h in
-    let second = refine.M3-refines-M2 c ax .starts (m4.see s) third in
-    (third, second, refine.M2-refines-M1 c ax .starts (m3.see (m4.see s)) second)
+-- A record that reads as the initial state of the fourth refinement reads as that of each machine before.
+pub starts-each : (r : Record) → Sound r → m4.Start (constantsOf r) (stateOf r) → StartOfEach r
+starts-each r s fourth =
+    let ax = axioms r s in
+    let third = refine.M4-refines-M3 _ ax .starts (stateOf r) fourth in
+    let second = refine.M3-refines-M2 _ ax .starts (stateOf3 r) third in
+    record { fourth = fourth; third = third; second = second; initial = refine.M2-refines-M1 _ ax .starts (stateOf2 r) second }
 
--- Any list of steps, done or refused, is a run of each machine.
-pub panel-runs : (r : Record) → Shaped r → Sound r → (rows : List StepRow) → RunOfEach r rows
+-- Any list of steps, done or refused, is row by row a run of each machine: the row's event, or nothing.
+pub panel-runs : (r : Record) → Shaped r → Sound r → (rows : List StepRow) → RunOfEach (constantsOf r) r rows
 panel-runs r sh s rows = panel.runs r rows sh s
+
+-- No row is two moves.
+pub one-move-a-row : (r : Record) (row : StepRow) → OneMove r row
+one-move-a-row = panel.only-move
 
 -- ---- safety
 
@@ -166,6 +173,12 @@ open-for-one c s all d g =
     let who = inv2 .inv2-6 d .0 (inl (all .1 .inv4-4 d g)) in
     (who .0, who .1, inv2 .inv2-2 (who .0) d (who .1), inv2 .inv2-3 (who .0) d (who .1), λ q m. inv2 .inv2-1 .back q (who .0) d m (who .1))
 
--- At every door of every sound record some event is enabled.
-pub no-door-stuck : (r : Record) → Shaped r → Sound r → (d : ℕ) → constantsOf r .D d → (e : m4.Event) × m4.Guard (constantsOf r) (stateOf r) e
-no-door-stuck = some-event
+-- EQP-3: no door has both its lights on.
+pub one-light : (c : Constants) (s : State m4.names) → m4.All c s → m4.EQP-3 s
+one-light c s all d lit =
+    let inv4 = all .1 in
+    all .0 .0 .1 .inv2-7 d (inv4 .inv4-1 d .0 (inl (inv4 .inv4-4 d (lit .0))), inv4 .inv4-5 d .0 (inl (inv4 .inv4-7 d (lit .1))))
+
+-- At each door of a sound record an event of that very door is enabled, and some step at it acts and alters the record.
+pub no-door-stuck : (r : Record) → Shaped r → Sound r → (d : ℕ) → constantsOf r .D d → Live r d
+no-door-stuck = live

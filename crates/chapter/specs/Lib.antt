@@ -9,3 +9,4 @@ pub mod M3
 pub mod M4
 pub mod Whole
 pub mod Reading
+pub mod Panel

@@ -2,7 +2,7 @@
 -- those of the initial model.
 use Prim.Native.Nat.{ℕ}
 use Rattle.chapter.specs.Context.{Constants}
-use Rattle.chapter.specs.Machines.{State, Machine, Origin, refines, _▹_, _sits-in_}
+use Rattle.chapter.specs.Machines.{State, Machine, Move, event, _▹_, _sits-in_}
 use Rattle.chapter.specs.M0 as m0
 
 pub data Event : Type 0 where
@@ -19,8 +19,8 @@ abbrev pub machine : Constants → Machine
 machine c = record { names = m0.names; Event = Event; Start = m0.Start c; Guard = Guard c; action = action c }
 
 -- "the event pass is refined"
-abbrev pub from : Event → Origin m0.Event
-from (pass p l) = refines (m0.pass p l)
+abbrev pub from : Event → Move m0.Event
+from (pass p l) = event (m0.pass p l)
 
 -- sit is sit
 abbrev pub see : State m0.names → State m0.names

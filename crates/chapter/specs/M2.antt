@@ -3,7 +3,7 @@ use Prim.Native.Nat.{ℕ}
 use mathlib.Core.Path.{_≡_}
 use Rattle.chapter.specs.Sets.{Relation, Injective, Empty, dom, ran, _∪_, _∩_, _⊆_, _≐_}
 use Rattle.chapter.specs.Context.{Constants}
-use Rattle.chapter.specs.Machines.{Names, State, Machine, Origin, new, refines, _▹_, _sits-in_, _∪=_, _∖=_, _at_:=_, _⩥=_}
+use Rattle.chapter.specs.Machines.{Names, State, Machine, Move, event, skip, _▹_, _sits-in_, _∪=_, _∖=_, _at_:=_, _⩥=_}
 use Rattle.chapter.specs.M0 as m0
 use Rattle.chapter.specs.M1 as m1
 
@@ -85,12 +85,12 @@ machine c = record { names = names; Event = Event; Start = Start c; Guard = Guar
 
 -- "the new version of the event pass refines its abstraction", "with p = dap⁻¹(d), l = dst(d)"; "the new events all refine
 -- .. skip"
-abbrev pub from : Constants → Event → Origin m1.Event
-from c (accept p d) = new
-from c (refuse p d) = new
-from c (pass p d) = refines (m1.pass p (c .dst d))
-from c (off-grn d) = new
-from c (off-red d) = new
+abbrev pub from : Constants → Event → Move m1.Event
+from c (accept p d) = skip
+from c (refuse p d) = skip
+from c (pass p d) = event (m1.pass p (c .dst d))
+from c (off-grn d) = skip
+from c (off-red d) = skip
 
 -- sit is sit
 abbrev pub see : State names → State m0.names

@@ -3,7 +3,7 @@ use Prim.Native.Nat.{ℕ}
 use mathlib.Core.Path.{_≡_}
 use Rattle.chapter.specs.Sets.{Partial, Empty, dom, _∪_, _∩_, _⊆_, _≐_}
 use Rattle.chapter.specs.Context.{Constants}
-use Rattle.chapter.specs.Machines.{Names, State, Machine, Origin, new, refines, _▹_, _sits-in_, _∪=_, _∖=_, _at_:=_, _⩥=_, _∪=⟨_⇒_⟩, _∖=⟨_⇒_⟩}
+use Rattle.chapter.specs.Machines.{Names, State, Machine, Move, event, skip, _▹_, _sits-in_, _∪=_, _∖=_, _at_:=_, _⩥=_, _∪=⟨_⇒_⟩, _∖=⟨_⇒_⟩}
 use Rattle.chapter.specs.M2.{Acceptable}
 use Rattle.chapter.specs.M2 as m2
 
@@ -85,14 +85,14 @@ abbrev pub machine : Constants → Machine
 machine c = record { names = names; Event = Event; Start = Start c; Guard = Guard c; action = action c }
 
 -- "the refinements of two events accept and refuse"; "the event pass is almost identical"; "a new physical event ACKN"
-abbrev pub from : Event → Origin m2.Event
-from (CARD p d) = new
-from (accept p d) = refines (m2.accept p d)
-from (refuse p d) = refines (m2.refuse p d)
-from (pass p d) = refines (m2.pass p d)
-from (off-grn d) = refines (m2.off-grn d)
-from (off-red d) = refines (m2.off-red d)
-from (ACKN d) = new
+abbrev pub from : Event → Move m2.Event
+from (CARD p d) = skip
+from (accept p d) = event (m2.accept p d)
+from (refuse p d) = event (m2.refuse p d)
+from (pass p d) = event (m2.pass p d)
+from (off-grn d) = event (m2.off-grn d)
+from (off-red d) = event (m2.off-red d)
+from (ACKN d) = skip
 
 -- the variables of the second refinement: each is itself
 abbrev pub setNamed : m2.Sets → Sets

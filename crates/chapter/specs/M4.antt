@@ -3,7 +3,7 @@ use Prim.Native.Nat.{ℕ}
 use mathlib.Core.Path.{_≡_}
 use Rattle.chapter.specs.Sets.{Set, Empty, _∪_, _∩_, _⊆_, _≐_}
 use Rattle.chapter.specs.Context.{Constants}
-use Rattle.chapter.specs.Machines.{Names, State, Machine, Origin, new, refines, _▹_, _sits-in_, _∪=_, _∖=_, _at_:=_, _⩥=_, _∪=⟨_⇒_⟩, _∖=⟨_⇒_⟩}
+use Rattle.chapter.specs.Machines.{Names, State, Machine, Move, event, skip, _▹_, _sits-in_, _∪=_, _∖=_, _at_:=_, _⩥=_, _∪=⟨_⇒_⟩, _∖=⟨_⇒_⟩}
 use Rattle.chapter.specs.M2.{Acceptable}
 use Rattle.chapter.specs.M3.{Maps, dap, mCard, mapNo}
 use Rattle.chapter.specs.M3 as m3
@@ -108,19 +108,19 @@ abbrev pub machine : Constants → Machine
 machine c = record { names = names; Event = Event; Start = Start c; Guard = Guard c; action = action c }
 
 -- the events of the doors are new
-abbrev pub from : Event → Origin m3.Event
-from (CARD p d) = refines (m3.CARD p d)
-from (accept p d) = refines (m3.accept p d)
-from (refuse p d) = refines (m3.refuse p d)
-from (pass p d) = refines (m3.pass p d)
-from (ACCEPT d) = new
-from (PASS d) = new
-from (OFF-GRN d) = new
-from (off-grn d) = refines (m3.off-grn d)
-from (REFUSE d) = new
-from (OFF-RED d) = new
-from (off-red d) = refines (m3.off-red d)
-from (ACKN d) = refines (m3.ACKN d)
+abbrev pub from : Event → Move m3.Event
+from (CARD p d) = event (m3.CARD p d)
+from (accept p d) = event (m3.accept p d)
+from (refuse p d) = event (m3.refuse p d)
+from (pass p d) = event (m3.pass p d)
+from (ACCEPT d) = skip
+from (PASS d) = skip
+from (OFF-GRN d) = skip
+from (off-grn d) = event (m3.off-grn d)
+from (REFUSE d) = skip
+from (OFF-RED d) = skip
+from (off-red d) = event (m3.off-red d)
+from (ACKN d) = event (m3.ACKN d)
 
 -- the variables of the third refinement, grn and red by inv4-1 and inv4-5
 abbrev pub setMadeOf : (Sets → Set) → m3.Sets → Set
@@ -135,3 +135,7 @@ see s = record { sit = s .sit; set = setMadeOf (s .set); map = s .map }
 -- the invariants of this machine and of those before
 abbrev pub All : Constants → State names → Type 0
 All c s = m3.All c (see s) × Inv (see s) s
+
+-- EQP-3: "Each card reader has two lights: one green light and one red light", of which one is on at most
+abbrev pub EQP-3 : State names → Type 0
+EQP-3 s = Empty (s .set GRN ∩ s .set RED)

@@ -1,5 +1,5 @@
--- What a machine is: the state of its variables, its events with guard and action, its runs, and what it is that one
--- machine refines another. An action is a chain of assignments; what none of them names stays as it was.
+-- What a machine is: the state of its variables, its events with guard and action, the steps of its runs, and what it is
+-- that one machine refines another. An action is a chain of assignments; what none of them names stays as it was.
 -- Names are the chapter's, with a hyphen where it has an underscore.
 use Prim.Native.Nat.{ℕ}
 use mathlib.Core.Path.{_≡_}
@@ -83,27 +83,17 @@ pub record Machine : Type 1 where
   pub Guard : State names → Event → Type 0
   pub action : State names → Event → State names
 
--- One step of a run: an event that its guard allows, or nothing.
-pub data MachineStep (m : Machine) (s t : State (m .names)) : Type 0 where
-  event : (e : m .Event) → m .Guard s e → Same t (m .action s e) → MachineStep m s t
-  skip : Same t s → MachineStep m s t
+-- What happens in a step of a run: an event, or nothing, "the event which does nothing, skip".
+pub data Move (Event : Type 0) : Type 0 where
+  event : Event → Move Event
+  skip : Move Event
 
-pub data Run (m : Machine) : State (m .names) → State (m .names) → Type 1 where
-  stop : {s : State (m .names)} → Run m s s
-  step : {s : State (m .names)} {t : State (m .names)} {u : State (m .names)} → MachineStep m s t → Run m t u → Run m s u
+-- One step of a run, from s to t: an event that its guard allows, with its action; or nothing.
+abbrev pub MachineStep : (m : Machine) → State (m .names) → Move (m .Event) → State (m .names) → Type 0
+MachineStep m s (event e) t = m .Guard s e × Same t (m .action s e)
+MachineStep m s skip t = Same t s
 
 -- ---- refinement
-
--- An event of a machine is a new one, which is to "refine the event which does nothing, skip", or refines one of the machine
--- before.
-pub data Origin (Event : Type 0) : Type 0 where
-  new : Origin Event
-  refines : Event → Origin Event
-
--- what the machine before sees of an event: nothing; or an event that its guard allows, with its action
-abbrev pub Seen : (m : Machine) → State (m .names) → State (m .names) → Origin (m .Event) → Type 0
-Seen m s t new = Same t s
-Seen m s t (refines e) = m .Guard s e × Same t (m .action s e)
 
 -- Invariants that hold at the start and that every event keeps. (They can't tell states that are the same.)
 pub record Keeps (m : Machine) (Inv : State (m .names) → Type 0) : Type 1 where
@@ -111,15 +101,20 @@ pub record Keeps (m : Machine) (Inv : State (m .names) → Type 0) : Type 1 wher
   pub keeps : (s : State (m .names)) (e : m .Event) → Inv s → m .Guard s e → Inv (m .action s e)
   pub same : (s t : State (m .names)) → Same t s → Inv s → Inv t
 
--- Machine c refines machine a. `see` finds the variables of a in a state of c, `from` tells where each event of c is from;
--- `Before` are the invariants of a, `Inv` those that c adds.
-pub record Refines (a c : Machine) (see : State (c .names) → State (a .names)) (from : c .Event → Origin (a .Event))
+-- Machine c refines machine a. `see` finds the variables of a in a state of c. `from` tells which event of a an event of c
+-- refines; a new one is to "refine the event which does nothing, skip". `Before` are the invariants of a, `Inv` those that c adds.
+pub record Refines (a c : Machine) (see : State (c .names) → State (a .names)) (from : c .Event → Move (a .Event))
     (Before : State (a .names) → Type 0) (Inv : State (c .names) → Type 0) : Type 1 where
   pub starts : (s : State (c .names)) → c .Start s → a .Start (see s)
-  pub simulates : (s : State (c .names)) (e : c .Event) → Before (see s) → Inv s → c .Guard s e → Seen a (see s) (see (c .action s e)) (from e)
+  pub simulates : (s : State (c .names)) (e : c .Event) → Before (see s) → Inv s → c .Guard s e → MachineStep a (see s) (from e) (see (c .action s e))
   -- the invariants that c adds hold at the start, and its events keep them
   pub begins : (s : State (c .names)) → c .Start s → Inv s
   pub keeps : (s : State (c .names)) (e : c .Event) → Before (see s) → Inv s → c .Guard s e → Inv (c .action s e)
   -- states that are the same are seen alike
   pub see-same : (s t : State (c .names)) → Same t s → Same (see t) (see s)
   pub inv-same : (s t : State (c .names)) → Same t s → Inv s → Inv t
+
+-- What machine a sees of a move of c: nothing of nothing, and of an event the one that it refines.
+abbrev pub seen : {A C : Type 0} → (C → Move A) → Move C → Move A
+seen from (event e) = from e
+seen from skip = skip

@@ -14,13 +14,10 @@ use Rattle.phases.specs.declared.table.Kind.the-variants.{Card, Decide, Green, 
 use Rattle.phases.specs.Phase.{free, read, granted, green, walked, expired, denied, red, dimmed, closed}
 use Rattle.record.specs.Doors.{planOf}
 use Rattle.granting.specs.Grants.{GrantAt}
-use Rattle.record.specs.Run.{lastOf}
-use Rattle.phases.specs.Kinds.{StepRow}
 use Rattle.chapter.specs.Sets.{dom}
 use Rattle.chapter.specs.Context.{Constants}
-use Rattle.chapter.specs.Machines.{State, Run}
+use Rattle.chapter.specs.Machines.{State}
 use Rattle.chapter.specs.M0 as m0
-use Rattle.chapter.specs.M1 as m1
 use Rattle.chapter.specs.M2 as m2
 use Rattle.chapter.specs.M2.{Acceptable}
 use Rattle.chapter.specs.M3 as m3
@@ -141,13 +138,3 @@ pub data FirstFailing (c : Constants) (s : State m4.names) (p d : ℕ) : ℕ →
   situated : (s .sit p ≡ c .org d → ⊥) → FirstFailing c s p d 1
   authorized : s .sit p ≡ c .org d → (c .aut p (c .dst d) → ⊥) → FirstFailing c s p d 2
   uninvolved : s .sit p ≡ c .org d → c .aut p (c .dst d) → dom (s .map dap) p → FirstFailing c s p d 3
-
--- ---- a run of the panel
-
--- The steps of a list from record r on are, seen through the readings, a run of each machine.
-pub record RunOfEach (r : Record) (rows : List StepRow) : Type 1 where
-  pub fourth : Run (m4.machine (constantsOf r)) (stateOf r) (stateOf (lastOf r rows))
-  pub third : Run (m3.machine (constantsOf r)) (stateOf3 r) (stateOf3 (lastOf r rows))
-  pub second : Run (m2.machine (constantsOf r)) (stateOf2 r) (stateOf2 (lastOf r rows))
-  pub first : Run (m1.machine (constantsOf r)) (stateOf1 r) (stateOf1 (lastOf r rows))
-  pub initial : Run (m0.machine (constantsOf r)) (stateOf1 r) (stateOf1 (lastOf r rows))

@@ -1,6 +1,7 @@
 -- The chapter's claims as a whole: each machine keeps its invariants, and refines the one before.
+use Prim.Native.Nat.{ℕ}
 use Rattle.chapter.specs.Context.{Constants}
-use Rattle.chapter.specs.Machines.{Keeps, Refines}
+use Rattle.chapter.specs.Machines.{State, Keeps, Refines}
 use Rattle.chapter.specs.M0 as m0
 use Rattle.chapter.specs.M1 as m1
 use Rattle.chapter.specs.M2 as m2
@@ -22,3 +23,7 @@ pub record Chapter (c : Constants) : Type 1 where
   -- "The proof of this refinement does not induce any particular problem."
   pub M3-refines-M2 : Refines (m2.machine c) (m3.machine c) m3.see m3.from (m2.All c) (m3.Inv c)
   pub M4-refines-M3 : Refines (m3.machine c) (m4.machine c) m4.see m4.from (m3.All c) (λ s. m4.Inv (m4.see s) s)
+  -- "that the event pass does not happen less often than its abstraction, taking into account, of course, the new events": where
+  -- accept, pass and off-red of the second refinement aren't enabled, pass isn't in the first
+  pub pass-not-less-often : (s : State m2.names) → m2.Inv c s → ((p d : ℕ) → m2.Guard c s (m2.accept p d) → ⊥) → ((p d : ℕ) → m2.Guard c s (m2.pass p d) → ⊥)
+      → ((d : ℕ) → m2.Guard c s (m2.off-red d) → ⊥) → (p l : ℕ) → m1.Guard c (m2.see s) (m1.pass p l) → ⊥

@@ -41,9 +41,10 @@ use Rattle.grammar.specs.Sizes.{limit}
 use Rattle.site_sheet.specs.Draft.{planIn}
 use Rattle.site_sheet.specs.Site.{siteOf}
 use Rattle.site_sheet.proofs.Theorems.{accepted-holds}
-use Rattle.chapter.proofs.Theorems.{fresh-reads, step-acts, step-follows, tick-idles, refusal-alters-nothing, stands-for-one, idle-stands-for-none, denial-first}
+use Rattle.chapter.proofs.Theorems.{fresh-reads, starts-each, step-acts, step-follows, tick-idles, refusal-alters-nothing, stands-for-one, idle-stands-for-none, denial-first}
 use Rattle.chapter.specs.M4 as m4
 use Rattle.chapter.specs.Reading.{constantsOf, stateOf}
+use Rattle.chapter.specs.Panel.{StartOfEach}
 use Rattle.demands.specs.DemandTwo.{WayOutside, StepIsEvent, Light, Decided, NothingToAlter, no-light, green-whole, red-whole, GreenCounts, RedCounts}
 use Rattle.demands.proofs.DemandOne.{of-record}
 use Rattle.card_by_card.proofs.Serial.{step-done}
@@ -95,13 +96,14 @@ is-event r sh s k d p =
       sound-again = (shaped-stays r k d p sh, sound-stays r k d p sh s);
     }
 
--- the record of an accepted sheet is fresh, and so reads as the initial state
-pub starts : (s : List ℕ) → siteOf s .verdict ≡ Accepted → m4.Start (constantsOf (siteOf s .«record»)) (stateOf (siteOf s .«record»))
+-- the record of an accepted sheet is fresh, and so reads as the initial state of each machine
+pub starts : (s : List ℕ) → siteOf s .verdict ≡ Accepted → StartOfEach (siteOf s .«record»)
 starts s e =
     let a = accepted-holds limit s e in
     let t = a .tables in
-    subst (λ (r : Record). m4.Start (constantsOf r) (stateOf r)) (sym (a .fresh))
-    (fresh-reads (planIn t) (t .right))
+    starts-each (siteOf s .«record») (a .sound)
+    (subst (λ (r : Record). m4.Start (constantsOf r) (stateOf r)) (sym (a .fresh))
+    (fresh-reads (planIn t) (t .right)))
 
 -- ---- a decision
 

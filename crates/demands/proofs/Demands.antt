@@ -15,7 +15,7 @@ use Rattle.verdict.specs.declared.Verdict.the-variants.{Accepted}
 use Rattle.grammar.specs.Sizes.{limit}
 use Rattle.site_sheet.specs.Site.{siteOf}
 use Rattle.site_sheet.proofs.Theorems.{accepted-exactly, accepted-holds}
-use Rattle.chapter.proofs.Theorems.{constants-obey, panel-runs}
+use Rattle.chapter.proofs.Theorems.{constants-obey, the-chapter, invariants-hold, panel-runs, one-move-a-row, no-door-stuck}
 use Rattle.demands.specs.DemandOne.{DemandOne}
 use Rattle.demands.specs.DemandTwo.{DemandTwo}
 use Rattle.card_by_card.specs.Served.{DemandThree}
@@ -66,8 +66,12 @@ demand-2 =
       step = is-event;
       decision = decided;
       axioms = constants-obey;
+      chapter = the-chapter;
+      invariants = invariants-hold;
       starts = starts;
       runs = panel-runs;
+      one-move = one-move-a-row;
+      no-door-stuck = no-door-stuck;
       whole-run = cases.whole-run;
       whole-run-places = cases.whole-run-places;
       alters = alters;

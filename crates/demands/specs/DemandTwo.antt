@@ -30,11 +30,13 @@ use Rattle.grammar.specs.Sizes.{limit}
 use Rattle.site_sheet.specs.Site.{siteOf}
 use Rattle.site_sheet.specs.Gives.{Obeys}
 use Rattle.site_sheet.specs.Accepted.{AcceptedRecord}
-use Rattle.chapter.specs.Context.{Axioms}
+use Rattle.chapter.specs.Context.{Constants, Axioms}
 use Rattle.chapter.specs.Machines.{Same}
 use Rattle.chapter.specs.M4.{Event}
 use Rattle.chapter.specs.M4 as m4
-use Rattle.chapter.specs.Reading.{constantsOf, stateOf, StandsFor, Enabled, Idle, FirstFailing, RunOfEach}
+use Rattle.chapter.specs.Whole.{Chapter}
+use Rattle.chapter.specs.Reading.{constantsOf, stateOf, StandsFor, Enabled, Idle, FirstFailing}
+use Rattle.chapter.specs.Panel.{StartOfEach, OneMove, RunOfEach, Live}
 use Rattle.run_events.specs.Lines.{heardOf}
 use Rattle.demands.specs.Cases.{freshSite}
 use Rattle.demands.specs.WholeRun.{runOf01, rowsHeard}
@@ -132,11 +134,18 @@ pub record DemandTwo : Type 1 where
   pub step : (r : Record) → Shaped r → Sound r → (k : Kind) (d p : ℕ) → StepIsEvent r k d p
   -- "is green exactly when all three conditions hold, otherwise red with the first reason that applies."
   pub decision : (r : Record) → Shaped r → Sound r → (d p : ℕ) → stepOf r Decide d p .answer ≡ Done → Decided r d (stepOf r Decide d p)
-  -- "to its fourth refinement": the tables are constants as its axioms want them, the fresh record is its initial state, and any list
-  -- of steps is a run of each of its machines
+  -- "to its fourth refinement": the tables are constants as its axioms want them; of any such constants each machine keeps its
+  -- invariants and refines the one before; every invariant holds of what a sound record reads as; the record of an accepted sheet
+  -- reads as the initial state of each machine; and any list of steps is a run of each, row by row the event that the row's step
+  -- stands for, or nothing
   pub axioms : (r : Record) → Sound r → Axioms (constantsOf r)
-  pub starts : (s : List ℕ) → siteOf s .verdict ≡ Accepted → m4.Start (constantsOf (siteOf s .«record»)) (stateOf (siteOf s .«record»))
-  pub runs : (r : Record) → Shaped r → Sound r → (rows : List StepRow) → RunOfEach r rows
+  pub chapter : (c : Constants) → Axioms c → Chapter c
+  pub invariants : (r : Record) → Sound r → m4.All (constantsOf r) (stateOf r)
+  pub starts : (s : List ℕ) → siteOf s .verdict ≡ Accepted → StartOfEach (siteOf s .«record»)
+  pub runs : (r : Record) → Shaped r → Sound r → (rows : List StepRow) → RunOfEach (constantsOf r) r rows
+  pub one-move : (r : Record) (row : StepRow) → OneMove r row
+  -- and each door has an event that is enabled, and a step that acts and alters the record
+  pub no-door-stuck : (r : Record) → Shaped r → Sound r → (d : ℕ) → d < r .doors → Live r d
   -- "a panel that refuses everything, one that gives one light always": on 01's site the steps of 01's run are answered as 01 prints
   -- them: row 2 is granted and row 6 denied, 9 and 10 are refused and all others act; and `where` prints 1 of person 0, 0 of person 1
   pub whole-run : heardOf freshSite (rowsHeard runOf01) ≡ runOf01
