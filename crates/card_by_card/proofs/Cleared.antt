@@ -8,8 +8,7 @@ use lib.Seq.{set-getD}
 use Rattle.tables.specs.Tables.{Plan, mostDoors}
 use Rattle.record.specs.declared.record.Record.{Record}
 use Rattle.door.specs.Door.{freeDoor}
-use Rattle.record.specs.Doors.{planOf, doorOf, putDoor, zeros, Shaped}
-use Rattle.record.specs.Deeds.{recordOf}
+use Rattle.record.specs.Doors.{recordOf, planOf, doorOf, putDoor, zeros, Shaped}
 use Rattle.record.specs.Sound.{DoorOk, Sound}
 use Rattle.record.proofs.Fresh.{zeros-at, zeros-long, free-ok}
 

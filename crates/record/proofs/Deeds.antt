@@ -18,12 +18,12 @@ use Rattle.phases.specs.declared.answer.Answer.the-variants.{NoSuch, NotAllowed
 use Rattle.record.specs.declared.steps.Deed.{Deed}
 use Rattle.record.specs.declared.steps.Step.{Step}
 use Rattle.phases.specs.Phase.{closed}
-use Rattle.record.specs.Doors.{doorOf}
+use Rattle.record.specs.Doors.{recordOf, doorOf}
 use Rattle.phases.specs.Table.{asked}
 use Rattle.record.specs.Sound.{Sound}
 use Rattle.door.specs.Does.{effect}
 use Rattle.record.specs.Steps.{reasonFor, act, refused, exist, soundStep}
-use Rattle.record.specs.Deeds.{recordOf, carried, Known}
+use Rattle.record.specs.Deeds.{carried, Known}
 use Rattle.tables.proofs.Cases.{below-or-not}
 use Rattle.phases.proofs.Entries.{table-allows}
 

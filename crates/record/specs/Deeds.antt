@@ -14,26 +14,9 @@ use Rattle.record.specs.declared.steps.Told.{Told}
 use Rattle.record.specs.declared.steps.Deed.{Deed}
 use Rattle.record.specs.declared.steps.Deed.the-variants.{Tells, Puts, Leads}
 use Rattle.phases.specs.Phase.{closed}
-use Rattle.record.specs.Doors.{planOf, putDoor, putAt}
+use Rattle.record.specs.Doors.{planOf, recordOf, putDoor, putAt}
 use Rattle.door.specs.declared.does.Does.the-variants.{Turns}
 use Rattle.record.specs.Steps.{act, refused, soundStep}
-
--- the record of this plan, these rights and these lists
-abbrev pub recordOf : Plan → List Bool → List ℕ → List ℕ → List ℕ → List ℕ → Record
-recordOf site right place phase holder count =
-    record {
-      people = site .people;
-      locations = site .locations;
-      doors = site .doors;
-      origin = site .origin;
-      destination = site .destination;
-      exit = site .exit;
-      right = right;
-      place = place;
-      phase = phase;
-      holder = holder;
-      count = count;
-    }
 
 -- the record with these places and doors, its tables as they were
 abbrev pub holding : Record → List ℕ → List ℕ → List ℕ → List ℕ → Record

@@ -17,47 +17,9 @@ doorOf r d = doorIn (r .phase) (r .holder) (r .count) d
 abbrev pub planOf : Record → Plan
 planOf r = plan (r .people) (r .locations) (r .doors) (r .origin) (r .destination) (r .exit)
 
--- the record with door d so, and all else as it was
-abbrev pub putDoor : Record → ℕ → Door → Record
-putDoor r d c =
-    record {
-      people = r .people;
-      locations = r .locations;
-      doors = r .doors;
-      origin = r .origin;
-      destination = r .destination;
-      exit = r .exit;
-      right = r .right;
-      place = r .place;
-      phase = set (r .phase) d (c .phase);
-      holder = set (r .holder) d (c .holder);
-      count = set (r .count) d (c .count);
-    }
-
--- the record with person p in location l, and all else as it was
-abbrev pub putAt : Record → ℕ → ℕ → Record
-putAt r p l =
-    record {
-      people = r .people;
-      locations = r .locations;
-      doors = r .doors;
-      origin = r .origin;
-      destination = r .destination;
-      exit = r .exit;
-      right = r .right;
-      place = set (r .place) p l;
-      phase = r .phase;
-      holder = r .holder;
-      count = r .count;
-    }
-
--- n zeros, as a list that stays under this name
-unfoldable pub zeros : ℕ → List ℕ
-zeros n = replicate n 0
-
--- "with everyone in 0 and every door free"
-abbrev pub freshRecord : Plan → List Bool → Record
-freshRecord site right =
+-- the record of this plan, these rights and these lists
+abbrev pub recordOf : Plan → List Bool → List ℕ → List ℕ → List ℕ → List ℕ → Record
+recordOf site right place phase holder count =
     record {
       people = site .people;
       locations = site .locations;
@@ -66,11 +28,28 @@ freshRecord site right =
       destination = site .destination;
       exit = site .exit;
       right = right;
-      place = zeros mostPeople;
-      phase = zeros mostDoors;
-      holder = zeros mostDoors;
-      count = zeros mostDoors;
+      place = place;
+      phase = phase;
+      holder = holder;
+      count = count;
     }
+
+-- the record with door d so, and all else as it was
+abbrev pub putDoor : Record → ℕ → Door → Record
+putDoor r d c =
+    recordOf (planOf r) (r .right) (r .place) (set (r .phase) d (c .phase)) (set (r .holder) d (c .holder)) (set (r .count) d (c .count))
+
+-- the record with person p in location l, and all else as it was
+abbrev pub putAt : Record → ℕ → ℕ → Record
+putAt r p l = recordOf (planOf r) (r .right) (set (r .place) p l) (r .phase) (r .holder) (r .count)
+
+-- n zeros, as a list that stays under this name
+unfoldable pub zeros : ℕ → List ℕ
+zeros n = replicate n 0
+
+-- "with everyone in 0 and every door free"
+abbrev pub freshRecord : Plan → List Bool → Record
+freshRecord site right = recordOf site right (zeros mostPeople) (zeros mostDoors) (zeros mostDoors) (zeros mostDoors)
 
 -- The lists of a record's doors and locations are as long as their arrays. To antt an array is a list of any length, so theorems
 -- about records say it. How many people there is room for is the length of the list of places, whatever it is.
