@@ -5,6 +5,7 @@ use mathlib.Core.List.{List}
 use lib.ListN.{getD}
 use lib.Dec.{eqb}
 use Rattle.tables.specs.Tables.{Plan, mayBe}
+use Rattle.phases.specs.Answers.{reasonNone, reasonAway, reasonBarred, reasonBusy}
 use Rattle.granting.specs.Grants.{hasGrant}
 
 -- "Granted when the person is at the door's origin, has a right to its destination and has no grant. Otherwise denied with
@@ -14,7 +15,7 @@ firstReason site right place phase holder d p =
     cond (eqb (getD place p 0) (getD (site .origin) d 0))
     (cond (mayBe right p (getD (site .destination) d 0))
     (cond (hasGrant (site .doors) phase holder p)
-    3
-    0)
-    2)
-    1
+    reasonBusy
+    reasonNone)
+    reasonBarred)
+    reasonAway

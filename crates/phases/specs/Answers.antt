@@ -63,3 +63,17 @@ lengthTold (answer.Length n) = n
 lengthTold answer.NoSuch = 0
 lengthTold answer.TooShort = 0
 lengthTold answer.Unsound = 0
+
+-- ---- why a card is denied: "reason 1 (not at the origin), 2 (no right), 3 (grant elsewhere)"; 0 is no reason
+
+abbrev pub reasonNone : ℕ
+reasonNone = 0
+
+abbrev pub reasonAway : ℕ
+reasonAway = 1
+
+abbrev pub reasonBarred : ℕ
+reasonBarred = 2
+
+abbrev pub reasonBusy : ℕ
+reasonBusy = 3

@@ -9,6 +9,7 @@ use Rattle.record.specs.declared.record.Record.{Record}
 use Rattle.phases.specs.declared.table.Kind.{Kind}
 use Rattle.phases.specs.declared.answer.Answer.{Answer}
 use Rattle.phases.specs.declared.answer.Answer.the-variants.{Done, NoSuch, NotAllowed, Unsound}
+use Rattle.phases.specs.Answers.{reasonNone, reasonAway, reasonBarred, reasonBusy}
 use Rattle.record.specs.declared.steps.Step.{Step}
 use Rattle.record.specs.declared.steps.Told.{Told}
 use Rattle.door.specs.declared.does.Does.{Does}
@@ -32,11 +33,11 @@ pub record Admitted (r : Record) (d p : ℕ) : Type 0 where
 
 -- "reason 1 (not at the origin), 2 (no right), 3 (grant elsewhere), the first that applies"
 pub data First (r : Record) (d p : ℕ) : ℕ → Type 0 where
-  none : Admitted r d p → First r d p 0
-  away : (getD (r .place) p 0 ≡ getD (r .origin) d 0 → ⊥) → First r d p 1
-  barred : getD (r .place) p 0 ≡ getD (r .origin) d 0 → mayBe (r .right) p (getD (r .destination) d 0) ≡ false → First r d p 2
+  none : Admitted r d p → First r d p reasonNone
+  away : (getD (r .place) p 0 ≡ getD (r .origin) d 0 → ⊥) → First r d p reasonAway
+  barred : getD (r .place) p 0 ≡ getD (r .origin) d 0 → mayBe (r .right) p (getD (r .destination) d 0) ≡ false → First r d p reasonBarred
   busy : getD (r .place) p 0 ≡ getD (r .origin) d 0 → mayBe (r .right) p (getD (r .destination) d 0) ≡ true
-      → (e : ℕ) → GrantAt (r .doors) (r .phase) (r .holder) p e → First r d p 3
+      → (e : ℕ) → GrantAt (r .doors) (r .phase) (r .holder) p e → First r d p reasonBusy
 
 -- "A step answers its number, the door's phase afterwards .. and the reason": what a step that is done hands back
 unfoldable pub act : Record → ℕ → Does → Step
