@@ -59,6 +59,11 @@ pub data TextSays : List ℕ → List SiteLine → Type 0 where
 
 -- ---- what lines say of the site
 
+-- a line is one of these
+pub data Among (line : SiteLine) : List SiteLine → Type 0 where
+  first : {lines : List SiteLine} → Among line (line ∷ lines)
+  behind : {other : SiteLine} {lines : List SiteLine} → Among line lines → Among line (other ∷ lines)
+
 -- `site,P,L`: "First data row"
 abbrev pub peopleIn : List SiteLine → ℕ
 peopleIn [] = 0
