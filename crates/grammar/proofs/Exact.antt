@@ -86,7 +86,7 @@ module _ (s : List ℕ) (at : ℕ) {cells : Cells} {next : ℕ} where
       let c : cells ≡ cellsOf noCells at r = cc in
       let l = row-there s at a in
       let w : at ≤ length s = omega arith in
-      record { row = r; rest = rest; there = a; holds = rw c (held s at a w); next-is = n; behind = rw n (next-is-rest s at a) }
+      record { row = r; rest = rest; there = a; holds = rw c (held s at a w); lies = c; next-is = n; behind = rw n (next-is-rest s at a) }
 
   cut-ends : cutRow s at ≡ Cut cells next → (drop at s ≡ [] → ⊥) → RowEnds (drop at s) → CutRow s at cells next
   cut-ends e h (row-crlf r rest w q) = cut-of e (ended w q)

@@ -22,7 +22,7 @@ use Rattle.grammar.specs.Rows
 use Rattle.grammar.specs.Meaning.{SheetOf, BrokenAfter, FirstFault}
 use Rattle.grammar.proofs.Found.{in-fresh, row-crlf, row-sheet, RowFound, row-found}
 use Rattle.grammar.proofs.Unique.{row-unique, no-row-at, sheet-unique}
-use Rattle.grammar.proofs.Faults.{EndsAt, Some, some, Stuck, row-stuck}
+use Rattle.grammar.proofs.Faults.{EndsAt, Some, some, Stuck, row-stuck, front-longer}
 use Rattle.grammar.proofs.Steps.{cut-within}
 use Rattle.grammar.proofs.Reading.{cut-behind, cut-there, rows-next}
 use Rattle.grammar.proofs.Exact.{row-read, rest-shorter, cut-from, row-is-cut, cut-is-row}
@@ -141,25 +141,12 @@ module _ (s : List ℕ) where
     (λ o. absurd (no-sheet-there s stop b (sheet-after l (o .is) .is) refl)),
   )
 
-  broken-counted : Reading s 0 (rowsFrom s 0) → {n byte : ℕ} → countRows s ≡ UpTo n byte → BrokenAfter s n byte
-  unfolding countRows
-  broken-counted (is-sheet rs h c) e = let q = c 0 in let z : _≡_ {A = ℕ} 0 1 = cc in absurd (omega arith)
-  broken-counted (is-broken rs stop b l d c) {n} {byte} e =
-      let q = c 0 in
-      let z : 0 + length rs ≡ n = cc in
-      let y : b ≡ byte = cc in
-      record { rows = rs; stop = stop; leads = l; broken-there = d ∙ ap Broken y; count = omega arith }
-
   from-start : Reading s 0 (rowsFrom s 0)
   from-start = reading s (suc (length s)) 0 (omega arith)
 
   -- a sheet is counted whole exactly when it is one
   pub count-exact : (n : ℕ) → (countRows s ≡ All n) ↔ SheetOf s n
   count-exact = all-counted from-start
-
-  -- and up to the row that breaks otherwise
-  pub count-broken : {n byte : ℕ} → countRows s ≡ UpTo n byte → BrokenAfter s n byte
-  count-broken = broken-counted from-start
 
 -- ---- where a row breaks
 
@@ -206,7 +193,7 @@ module _ (s : List ℕ) (at byte : ℕ) (rs : List Row) (l : BeginsWith s rs (dr
   some-left : drop at s ≡ [] → ⊥
   some-left h = let n : length s - at ≡ 0 = sym (length-drop at s) ∙ ap length h in let t = byte-there in omega arith
 
-  stuck : Stuck (rowFrom Fresh (emptyAt at) noCells at) (drop at s) at byte
+  stuck : Stuck EndsAt Broken (rowFrom Fresh (emptyAt at) noCells at) (drop at s) at byte
   stuck = rw (sym (cut-from s at byte-there) ∙ e) at (row-stuck (drop at s) Fresh (emptyAt at) noCells at)
 
   s-is : s ≡ rowsText rs ++ (stuck .before ++ stuck .behind)
@@ -258,3 +245,57 @@ module _ (s : List ℕ) (at byte : ℕ) (rs : List Row) (l : BeginsWith s rs (dr
     hopeless = λ other r more n t. no-more-there other r more (stuck .behind) refl n t;
     too-soon = λ r more t. no-sheet-there s at e (sheet-behind rs l t) refl;
   }
+
+-- ---- the rows in front of a broken one
+
+-- no row stands at the front of a text
+abbrev RowLess : List ℕ → Type 0
+RowLess t = (r : Row) (behind : List ℕ) → RowAt t r behind → ⊥
+
+-- as many rows as there are can be read in one way
+rows-once : {text t u : List ℕ} {rs ss : List Row} → BeginsWith text rs t → BeginsWith text ss u → RowLess t → RowLess u → rs ≡ ss
+rows-once here here n m = refl
+rows-once here (on a l) n m = absurd (n _ _ a)
+rows-once (on a l) here n m = absurd (m _ _ a)
+rows-once (on {rs = rs} a l) (on b k) n m =
+    let q = row-unique a b refl in
+    rw (q .first, rows-once l (rw (sym (q .behind)) at k) n m)
+
+no-sheet : {t : List ℕ} {ss : List Row} → Sheet t ss → (t ≡ [] → ⊥) → RowLess t → ⊥
+no-sheet no-row n m = n refl
+no-sheet (row a h) n m = m _ _ a
+
+-- a fault has one byte
+module _ {s : List ℕ} {rs : List Row} {a b : ℕ} where
+  not-before : FirstFault s rs a → FirstFault s rs b → a < b → ⊥
+  not-before f g h = let w = g .within in f .hopeless _ (g .next) [] (omega arith) (rw (front-longer s a b (g .mend) h) at (g .mended))
+
+byte-once : {s : List ℕ} {rs : List Row} {a b : ℕ} → FirstFault s rs a → FirstFault s rs b → a ≡ b
+byte-once f g = omega (arith, not-before f g, not-before g f)
+
+module _ (s : List ℕ) where
+  broken-row-less : (stop : ℕ) {byte : ℕ} → cutRow s stop ≡ Broken byte → RowLess (drop stop s)
+  broken-row-less stop e r behind a = clash (sym (row-is-cut s stop a) ∙ e)
+
+  up-to-broken : Reading s 0 (rowsFrom s 0) → (n byte : ℕ) → (countRows s ≡ UpTo n byte) ↔ BrokenAfter s n byte
+  unfolding countRows
+  up-to-broken (is-sheet rs h c) n byte = (
+    (λ e. let q = c 0 in let z : _≡_ {A = ℕ} 0 1 = cc in absurd (omega arith)),
+    (λ o. absurd (no-sheet (sheet-after (o .leads) h .is) (o .some) (o .no-row))),
+  )
+  up-to-broken (is-broken rs stop b l d c) n byte = (
+    (λ e.
+        let q = c 0 in
+        let z : 0 + length rs ≡ n = cc in
+        let y : b ≡ byte = cc in
+        record { rows = rs; rest = drop stop s; count = omega arith; leads = l; some = some-left s stop b rs l d; no-row = broken-row-less stop d; first = rw y at (fault-first s stop b rs l d) }),
+    (λ o.
+        let r = rows-once l (o .leads) (broken-row-less stop d) (o .no-row) in
+        let y = byte-once (rw r at (fault-first s stop b rs l d)) (o .first) in
+        let z : 0 + length rs ≡ n = let k = o .count in let m = ap length r in omega arith in
+        c 0 ∙ rw (z, y)),
+  )
+
+  -- a sheet is counted up to a row exactly when that row is the one that breaks
+  pub count-broken : (n byte : ℕ) → (countRows s ≡ UpTo n byte) ↔ BrokenAfter s n byte
+  count-broken = up-to-broken (from-start s)
