@@ -5,7 +5,7 @@ use Prim.Native.Nat.{ℕ, zero, suc, _+_, _*_, _≤_, _<_}
 use native.Mathlib.Omega.{arith}
 use mathlib.Core.Path.{_≡_, refl, sym, _∙_}
 use mathlib.Core.Logic.{_↔_}
-use mathlib.Core.Bool.{Bool, true, false, true≢false}
+use mathlib.Core.Bool.{Bool, true, false}
 use mathlib.Core.List.{List, [], _∷_}
 use lib.ListN.{length, getD}
 use lib.Dec.{ltb, eqb}
@@ -17,63 +17,18 @@ use Rattle.tables.specs.Rules.{DoorFrom, FirstLocation, ExitDoor, ExitRight, La
 use Rattle.tables.specs.declared.Found.{Found}
 use Rattle.tables.specs.declared.RightFound.{RightFound}
 use Rattle.tables.specs.Tests.{firstNoExit, firstStray, firstNoDoor, firstNoRight, firstShutOut}
-use Rattle.tables.proofs.Laws.{and-left, and-right, and-both, or-left, or-right, denied, clash, may-be-outside}
+use Rattle.tables.proofs.Laws.{and-right, and-both, or-left, or-right, denied, clash, may-be-outside}
 use Rattle.tables.proofs.Answers.{rule-6, rule-7, rule-8, rule-9, rule-10}
 use Rattle.site_sheet.specs.declared.SiteLine.{SiteLine}
 use Rattle.site_sheet.specs.declared.SiteLine.the-variants.{Site, Door, Exit, Right, Bad}
 use Rattle.site_sheet.specs.declared.Draft.{Draft}
 use Rattle.site_sheet.specs.Draft.{planIn}
-use Rattle.site_sheet.specs.Says.{Among, first, behind, Holds, peopleIn, locationsIn, originsIn, destinationsIn, isExit, hasExit, exitIn, hasRight, LineInRange, exit-range, second-exit}
-use Rattle.site_sheet.specs.Gives.{FineLines, one-fine, RowsFine, HasExit, ExitOf, ComesOut, outside, onward, ExitHasDoor, MayBeIn, everybodys, by-row, RightToExit, ComesIn, Six, Seven, Eight, Nine, Ten}
-use Rattle.site_sheet.proofs.Said.{exit-more}
+use Rattle.site_sheet.specs.Says.{Among, first, behind, HasExit, Holds, peopleIn, locationsIn, originsIn, destinationsIn, isExit, hasExit, exitIn, LineInRange, exit-range, second-exit}
+use Rattle.site_sheet.specs.Gives.{FineLines, one-fine, RowsFine, ExitOf, ComesOut, outside, onward, ExitHasDoor, MayBeIn, everybodys, by-row, RightToExit, ComesIn, Six, Seven, Eight, Nine, Ten}
+use Rattle.site_sheet.proofs.Said.{exit-more, has-exit, exit-has, right-row, right-has}
 use Rattle.site_sheet.proofs.Held.{Held, Ranged}
 
--- ---- a line among others, and what they say
-
-exit-behind : {line : SiteLine} {lines : List SiteLine} {k : ℕ} → HasExit lines k → HasExit (line ∷ lines) k
-exit-behind h = record { to = h .to; row = behind (h .row) }
-
-module _ (k : ℕ) where
-  has-exit : (lines : List SiteLine) → hasExit k lines ≡ true → HasExit lines k
-  unfolding hasExit orElse
-  has-exit [] e = absurd (true≢false (sym e))
-  has-exit (Site p l ∷ lines) e = exit-behind (has-exit lines e)
-  has-exit (Door o t ∷ lines) e = exit-behind (has-exit lines e)
-  has-exit (Right p l ∷ lines) e = exit-behind (has-exit lines e)
-  has-exit (Bad ∷ lines) e = exit-behind (has-exit lines e)
-  has-exit (Exit l m ∷ lines) e = go (eqb l k) refl e (λ q. has-exit lines q)
-    where
-      go : (q : Bool) → eqb l k ≡ q → orElse q (hasExit k lines) ≡ true → (hasExit k lines ≡ true → HasExit lines k) → HasExit (Exit l m ∷ lines) k
-      go true q e′ more = record { to = m; row = rw (eqb-true l k q) first }
-      go false q e′ more = exit-behind (more e′)
-
-  exit-has : {lines : List SiteLine} {m : ℕ} → Among (Exit k m) lines → hasExit k lines ≡ true
-  unfolding hasExit
-  exit-has first = or-left _ _ (eq-eqb k k refl)
-  exit-has (behind b) = or-right _ _ (exit-has b)
-
-module _ (p k : ℕ) where
-  right-row : (lines : List SiteLine) → hasRight p k lines ≡ true → Among (Right p k) lines
-  unfolding hasRight orElse
-  right-row [] e = absurd (true≢false (sym e))
-  right-row (Site q l ∷ lines) e = behind (right-row lines e)
-  right-row (Door o t ∷ lines) e = behind (right-row lines e)
-  right-row (Exit l m ∷ lines) e = behind (right-row lines e)
-  right-row (Bad ∷ lines) e = behind (right-row lines e)
-  right-row (Right q l ∷ lines) e = go (andAlso (eqb q p) (eqb l k)) refl e (λ x. right-row lines x)
-    where
-      go : (b : Bool) → andAlso (eqb q p) (eqb l k) ≡ b → orElse b (hasRight p k lines) ≡ true → (hasRight p k lines ≡ true → Among (Right p k) lines)
-          → Among (Right p k) (Right q l ∷ lines)
-      go true b e′ more =
-          let x = eqb-true q p (and-left _ _ b) in
-          let y = eqb-true l k (and-right (eqb q p) _ b) in
-          rw (x, y) first
-      go false b e′ more = behind (more e′)
-
-  right-has : {lines : List SiteLine} → Among (Right p k) lines → hasRight p k lines ≡ true
-  unfolding hasRight
-  right-has first = or-left _ _ (and-both _ _ (eq-eqb p p refl) (eq-eqb k k refl))
-  right-has (behind b) = or-right _ _ (right-has b)
+-- ---- the doors that lines give
 
 door-row : (lines : List SiteLine) (k : ℕ) → k < length (originsIn lines) → Among (Door (getD (originsIn lines) k 0) (getD (destinationsIn lines) k 0)) lines
 unfolding originsIn destinationsIn
@@ -112,8 +67,8 @@ exit-inside (exit-range i a b) = i
 
 exit-line : {before lines : List SiteLine} {l m : ℕ} → FineLines before lines → Among (Exit l m) lines → ExitLine before lines l m
 unfolding exitIn hasExit
-exit-line {l = l} (one-fine f a) first =
-    record { inside = exit-inside (f .in-range); new = denied _ (λ e. f .new (second-exit e)); is = rw (eq-eqb l l refl) }
+exit-line {before} {l = l} (one-fine f a) first =
+    record { inside = exit-inside (f .in-range); new = denied _ (λ e. f .new (second-exit (has-exit l before e))); is = rw (eq-eqb l l refl) }
 exit-line {before} {l = l} (one-fine {line = line} f a) (behind b) =
     let r = exit-line a b in
     let e : orElse (hasExit l before) (orElse (isExit l line) false) ≡ false = sym (exit-more l before (line ∷ [])) ∙ r .new in

@@ -12,7 +12,7 @@ use Rattle.site_sheet.specs.declared.Fault.{Fault}
 use Rattle.verdict.specs.declared.Verdict.{Verdict}
 use Rattle.verdict.specs.declared.Verdict.the-variants.{Accepted, TooLong, BadRow, NoSite, NoExit, Stray, NoDoor, NoRight, ShutOut}
 use Rattle.site_sheet.specs.Site.{verdictOf}
-use Rattle.site_sheet.specs.Says.{HeaderRow, TextSays, Among, peopleIn, locationsIn, Fine, Wrong}
+use Rattle.site_sheet.specs.Says.{HeaderRow, TextSays, Among, HasExit, peopleIn, locationsIn, Fine, Wrong}
 
 -- the sheet is short enough, begins with its header, and its further rows say these lines
 pub record Headed (most : ℕ) (s : List ℕ) (lines : List SiteLine) : Type 0 where
@@ -43,10 +43,6 @@ pub record RowsFine (most : ℕ) (s : List ℕ) (lines : List SiteLine) : Type 0
 -- ---- the rules of the whole sheet, said of its lines alone
 
 -- 6: "every location but 0 has an exit"
-pub record HasExit (lines : List SiteLine) (l : ℕ) : Type 0 where
-  pub to : ℕ
-  pub row : Among (Exit l to) lines
-
 abbrev pub ExitOf : List SiteLine → ℕ → Type 0
 ExitOf lines l = 1 ≤ l → HasExit lines l
 
