@@ -1,7 +1,8 @@
 -- Sheets as RFC 4180 and 01, "Site sheet", write them: which bytes are a field, a row, a sheet. Nothing here says how a
--- sheet is read. In one thing more is taken than RFC 4180 has: its bare field has printable ASCII only (TEXTDATA), ours all bytes but
--- quote, comma, CR and LF, as 02 wants them in C-16 ("a bare field may hold all bytes but quote, comma, CR and LF") and
--- C-21 ("Bytes of 128 and up may stand in a name").
+-- sheet is read. In one thing more is taken than RFC 4180 has: the text of its fields is printable ASCII (TEXTDATA; between quotes also
+-- comma, CR, LF and the doubled quote). Here a bare field holds all bytes but quote, comma, CR and LF, and a quoted one any, as 02
+-- wants in C-16 ("a bare field may hold all bytes but quote, comma, CR and LF") and C-21 ("Bytes of 128 and up may stand in
+-- a name").
 use Prim.Native.Nat.{ℕ}
 use mathlib.Core.Path.{_≡_}
 use mathlib.Core.Bool.{cond}
@@ -40,7 +41,7 @@ pub data Field : Type 0 where
 pub data Written : Field → Type 0 where
   -- RFC 4180, 2: non-escaped = *TEXTDATA, with `Plain` for TEXTDATA
   is-bare : {c : List ℕ} → AllPlain c → Written (bare c)
-  -- the content of a quoted field may hold any byte
+  -- RFC 4180, 2: escaped, with any byte between the quotes
   is-quoted : {c : List ℕ} → Written (quoted c)
 
 abbrev pub content : Field → List ℕ
