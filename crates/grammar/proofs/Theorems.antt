@@ -19,7 +19,7 @@ use Rattle.grammar.specs.Say.{ProperNumber, isWord, saysWords, numberAt}
 use Rattle.grammar.specs.Cut.{emptyAt, noCells, fieldFrom, cutField, cutRow}
 use Rattle.grammar.specs.Where.{holdsQuote, cellOf, cellsOf, CellHolds, RowHolds}
 use Rattle.grammar.specs.Rows.{onRow, rowsFrom, countRows}
-use Rattle.grammar.specs.Meaning.{CutRow, SheetOf, BrokenAfter, FirstFault, FirstFieldFault, Threefold}
+use Rattle.grammar.specs.Meaning.{CutRow, SheetOf, BrokenRow, BrokenAfter, FirstFieldFault, Threefold}
 use Rattle.grammar.proofs.Written as written
 use Rattle.grammar.proofs.Found as found
 use Rattle.grammar.proofs.Unique as unique
@@ -39,14 +39,14 @@ module _ (s : List ℕ) (at : ℕ) where
   pub found-is-row : {cells : Cells} {next : ℕ} → cutRow s at ≡ Cut cells next → CutRow s at cells next
   found-is-row e = exact.cut-is-row s at e
 
-  -- A position at the sheet's end or behind it has no row.
-  pub behind-no-row : length s ≤ at → cutRow s at ≡ NoRow
-  behind-no-row h = reading.cut-behind s at h
+  -- It finds none exactly at the sheet's end and behind it.
+  pub behind-no-row : (cutRow s at ≡ NoRow) ↔ (length s ≤ at)
+  behind-no-row = (reading.none-behind s at, reading.cut-behind s at)
 
-  -- Where the row cutter reports a fault at a byte, that byte is the first at which no continuation could be a well-formed row
-  -- behind the rows so far, or the sheet's length where it ends too soon.
-  pub fault-is-first : {byte : ℕ} (rs : List Row) → BeginsWith s rs (drop at s) → cutRow s at ≡ Broken byte → FirstFault s rs byte
-  fault-is-first {byte} rs l e = whole.fault-first s at byte rs l e
+  -- It reports a fault at a byte exactly when bytes are left, they begin with no row, and that byte is the first at which no
+  -- continuation could be a well-formed row behind the rows so far, or the sheet's length where it ends too soon.
+  pub fault-is-first : (rs : List Row) → BeginsWith s rs (drop at s) → (byte : ℕ) → (cutRow s at ≡ Broken byte) ↔ BrokenRow s rs (drop at s) byte
+  fault-is-first rs l byte = whole.fault-exact s at rs l byte
 
   -- A reader goes over the rows in their order: what is read from a position on is the row there, and then what is read from
   -- behind it.

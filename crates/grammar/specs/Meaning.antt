@@ -36,15 +36,19 @@ pub record FirstFault (s : List ℕ) (rs : List Row) (byte : ℕ) : Type 0 where
   -- where the sheet ends too soon, it is no sheet with a row more itself
   pub too-soon : (r : Row) (more : List Row) → Sheet s (rs ++ (r ∷ more)) → ⊥
 
--- a text has so many rows and then bytes that begin with no row, and the row there breaks at this byte
+-- behind the rows so far a text has bytes left, they begin with no row, and this is the byte at which the row there breaks
+pub record BrokenRow (s : List ℕ) (rs : List Row) (rest : List ℕ) (byte : ℕ) : Type 0 where
+  pub some : rest ≡ [] → ⊥
+  pub no-row : (r : Row) (behind : List ℕ) → RowAt rest r behind → ⊥
+  pub first : FirstFault s rs byte
+
+-- a text has so many rows, and then one that is broken at this byte
 pub record BrokenAfter (s : List ℕ) (n byte : ℕ) : Type 0 where
   pub rows : List Row
   pub rest : List ℕ
   pub count : length rows ≡ n
   pub leads : BeginsWith s rows rest
-  pub some : rest ≡ [] → ⊥
-  pub no-row : (r : Row) (behind : List ℕ) → RowAt rest r behind → ⊥
-  pub first : FirstFault s rows byte
+  pub broken : BrokenRow s rows rest byte
 
 -- the byte told is the first at which no continuation could be a well-formed field that begins at `at`
 pub record FirstFieldFault (s : List ℕ) (at byte : ℕ) : Type 0 where

@@ -3,20 +3,16 @@
 use Prim.Native.Nat.{ℕ, zero, suc, _-_, _≤_, _<_}
 use native.Mathlib.Omega.{arith}
 use mathlib.Core.Path.{_≡_, refl, sym, ap, ap₂, _∙_}
-use mathlib.Core.Bool.{Bool, true, false}
-use mathlib.Core.List.{List, [], _∷_}
-use lib.ListN.{length, drop, length-drop, drop-of-length-le}
-use lib.Dec.{ltb}
-use borrow.Author.Tests.{ltb-true, ltb-false}
+use mathlib.Core.List.{List, _∷_}
+use lib.ListN.{length, drop}
 use Rattle.grammar.specs.declared.cut.RowCut.{RowCut}
 use Rattle.grammar.specs.declared.cut.RowCut.the-variants.{Cut, NoRow, Broken}
 use Rattle.grammar.specs.Cut.{cutRow}
 use Rattle.grammar.specs.Rows.{onRow, rowsFrom}
-use Rattle.grammar.specs.Grammar.{Row, RowAt}
-use Rattle.grammar.proofs.Steps.{cut-within}
-use Rattle.grammar.proofs.Reading.{cut-behind, cut-there, rows-next}
+use Rattle.grammar.specs.Grammar.{Row}
+use Rattle.grammar.proofs.Reading.{cut-there, rows-next}
 use Rattle.grammar.proofs.Unique.{row-unique, no-row-at}
-use Rattle.grammar.proofs.Exact.{row-is-cut, cut-is-row}
+use Rattle.grammar.proofs.Exact.{cut-is-row, no-row-end, broken-some, broken-none}
 use Rattle.site_sheet.specs.declared.SiteLine.{SiteLine}
 use Rattle.site_sheet.specs.Line.{siteLineAt}
 use Rattle.site_sheet.specs.Site.{linesIn}
@@ -24,23 +20,6 @@ use Rattle.site_sheet.specs.Says.{SaysSo, TextSays, nothing, a-row, no-r
 use Rattle.site_sheet.proofs.Rows.{lineFrom, line-same, says-from, from-says}
 
 module _ (s : List ℕ) (at : ℕ) where
-  pub no-row-end : cutRow s at ≡ NoRow → drop at s ≡ []
-  no-row-end e = go (ltb at (length s)) refl
-    where
-      go : (q : Bool) → ltb at (length s) ≡ q → drop at s ≡ []
-      go true q = absurd (rw e at (cut-within s at (ltb-true at (length s) q) refl))
-      go false q = drop-of-length-le s (ltb-false at (length s) q)
-
-  pub broken-some : {byte : ℕ} → cutRow s at ≡ Broken byte → drop at s ≡ [] → ⊥
-  broken-some {byte} e h = go (ltb at (length s)) refl
-    where
-      go : (q : Bool) → ltb at (length s) ≡ q → ⊥
-      go true q = let l = ltb-true at (length s) q in let n : length s - at ≡ 0 = sym (length-drop at s) ∙ ap length h in omega arith
-      go false q = let b = cut-behind s at (ltb-false at (length s) q) in let z : _≡_ {A = ℕ} 0 1 = cc in omega arith
-
-  pub broken-none : {byte : ℕ} → cutRow s at ≡ Broken byte → (r : Row) (rest : List ℕ) → RowAt (drop at s) r rest → ⊥
-  broken-none e r rest a = let b = row-is-cut s at a in let z : _≡_ {A = ℕ} 0 1 = cc in omega arith
-
   turn : (cut : RowCut) → cutRow s at ≡ cut → ((next : ℕ) → at < next → next ≤ length s → TextSays (drop next s) (linesIn s (rowsFrom s next)))
       → TextSays (drop at s) (linesIn s (onRow cut (rowsFrom s)))
   unfolding linesIn
@@ -49,8 +28,8 @@ module _ (s : List ℕ) (at : ℕ) where
       let w = cut-there s at e in
       let x : SaysSo (c .row) (siteLineAt s cells) = rw (line-same s (c .row) (c .holds)) (says-from (c .row)) in
       a-row (c .there) x (rw (c .behind) at (more next (w .0) (w .1)))
-  turn NoRow e more = rw (no-row-end e) nothing
-  turn (Broken byte) e more = no-row-there (broken-some e) (broken-none e)
+  turn NoRow e more = rw (no-row-end s at e) nothing
+  turn (Broken byte) e more = no-row-there (broken-some s at e) (broken-none s at e)
 
 says-most : (s : List ℕ) (most at : ℕ) → length s - at < most → TextSays (drop at s) (linesIn s (rowsFrom s at))
 says-most s zero at h = absurd (omega arith)

@@ -20,7 +20,7 @@ use Rattle.grammar.specs.declared.cut.RowCut.the-variants.{Cut, NoRow, Broken}
 use Rattle.grammar.specs.Cut.{cutRow}
 use Rattle.grammar.specs.Rows.{rowsFrom}
 use Rattle.grammar.proofs.Unique.{row-unique, no-row-at}
-use Rattle.grammar.proofs.Exact.{cut-is-row}
+use Rattle.grammar.proofs.Exact.{cut-is-row, no-row-end, broken-none}
 use Rattle.site_sheet.specs.declared.SiteLine.{SiteLine}
 use Rattle.site_sheet.specs.declared.Draft.{Draft}
 use Rattle.site_sheet.specs.declared.Fault.{Fault}
@@ -37,7 +37,7 @@ use Rattle.site_sheet.proofs.Held.{Held, held-blank}
 use Rattle.site_sheet.proofs.Obeyed.{Ruled, rules-of}
 use Rattle.site_sheet.proofs.Outcome.{Outcome, fine, wrong, outcome, nothing-before, some-before}
 use Rattle.site_sheet.proofs.Rows.{headerFrom, header-same, header-is, is-header-row}
-use Rattle.site_sheet.proofs.Text.{no-row-end, broken-none, text-says}
+use Rattle.site_sheet.proofs.Text.{text-says}
 
 -- ---- the lines of a sheet, read into the tables
 
