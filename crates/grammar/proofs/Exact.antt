@@ -20,8 +20,7 @@ use Rattle.grammar.proofs.Written.{row-run, by-crlf, by-end}
 use Rattle.grammar.proofs.Found.{in-fresh, RowEnds, row-crlf, row-sheet, row-found}
 use Rattle.grammar.proofs.Unique.{no-row-at}
 use Rattle.grammar.proofs.Contents.{row-holds}
-use Rattle.grammar.proofs.Steps.{cut-within}
-use Rattle.grammar.proofs.Reading.{cut-behind, cut-there}
+use Rattle.grammar.proofs.Reading.{cut-behind, none-behind, cut-there}
 
 -- a row at the front of a text is read, and the rest of the text is left
 pub row-read : {text : List ℕ} {r : Row} {rest : List ℕ} (i : ℕ) (cells : Cells) → RowAt text r rest
@@ -87,7 +86,7 @@ module _ (s : List ℕ) (at : ℕ) {cells : Cells} {next : ℕ} where
       let c : cells ≡ cellsOf noCells at r = cc in
       let l = row-there s at a in
       let w : at ≤ length s = omega arith in
-      record { row = r; rest = rest; there = a; holds = rw c (held s at a w); next-is = n; behind = rw n (next-is-rest s at a) }
+      record { row = r; rest = rest; there = a; holds = rw c (held s at a w); lies = c; next-is = n; behind = rw n (next-is-rest s at a) }
 
   cut-ends : cutRow s at ≡ Cut cells next → (drop at s ≡ [] → ⊥) → RowEnds (drop at s) → CutRow s at cells next
   cut-ends e h (row-crlf r rest w q) = cut-of e (ended w q)
@@ -101,21 +100,21 @@ module _ (s : List ℕ) (at : ℕ) {cells : Cells} {next : ℕ} where
       cut-ends e (λ q. let m : length s - at ≡ 0 = sym (length-drop at s) ∙ ap length q in absurd (omega arith))
       (rw (sym (cut-from s at l) ∙ e) at (row-found (drop at s) Fresh (emptyAt at) noCells at in-fresh))
 
--- where no row is found, or a broken one
 module _ (s : List ℕ) (at : ℕ) where
+  -- no row is found only where no byte is left
   pub no-row-end : cutRow s at ≡ NoRow → drop at s ≡ []
-  no-row-end e = go (ltb at (length s)) refl
+  no-row-end e = drop-of-length-le s (none-behind s at e)
+
+  -- where a row breaks there is a byte, and no row
+  pub broken-there : {byte : ℕ} → cutRow s at ≡ Broken byte → at < length s
+  broken-there {byte} e = go (ltb at (length s)) refl
     where
-      go : (q : Bool) → ltb at (length s) ≡ q → drop at s ≡ []
-      go true q = absurd (rw e at (cut-within s at (ltb-true at (length s) q) refl))
-      go false q = drop-of-length-le s (ltb-false at (length s) q)
+      go : (q : Bool) → ltb at (length s) ≡ q → at < length s
+      go true q = ltb-true at (length s) q
+      go false q = let h = cut-behind s at (ltb-false at (length s) q) in let z : _≡_ {A = ℕ} 0 1 = cc in absurd (omega arith)
 
   pub broken-some : {byte : ℕ} → cutRow s at ≡ Broken byte → drop at s ≡ [] → ⊥
-  broken-some {byte} e h = go (ltb at (length s)) refl
-    where
-      go : (q : Bool) → ltb at (length s) ≡ q → ⊥
-      go true q = let l = ltb-true at (length s) q in let n : length s - at ≡ 0 = sym (length-drop at s) ∙ ap length h in omega arith
-      go false q = let b = cut-behind s at (ltb-false at (length s) q) in let z : _≡_ {A = ℕ} 0 1 = cc in omega arith
+  broken-some e h = let l = broken-there e in let n : length s - at ≡ 0 = sym (length-drop at s) ∙ ap length h in omega arith
 
   pub broken-none : {byte : ℕ} → cutRow s at ≡ Broken byte → (r : Row) (rest : List ℕ) → RowAt (drop at s) r rest → ⊥
   broken-none e r rest a = let b = row-is-cut s at a in let z : _≡_ {A = ℕ} 0 1 = cc in omega arith

@@ -20,6 +20,14 @@ pub cut-behind : (s : List ℕ) (at : ℕ) → length s ≤ at → cutRow s at �
 unfolding cutRow
 cut-behind s at h = rw (le-ltb at (length s) h)
 
+-- and only there
+pub none-behind : (s : List ℕ) (at : ℕ) → cutRow s at ≡ NoRow → length s ≤ at
+none-behind s at e = go (ltb at (length s)) refl
+  where
+    go : (q : Bool) → ltb at (length s) ≡ q → length s ≤ at
+    go true q = absurd (rw e at (cut-within s at (ltb-true at (length s) q) refl))
+    go false q = ltb-false at (length s) q
+
 -- a row that is cut was there to be cut
 pub cut-there : (s : List ℕ) (at : ℕ) {cells : Cells} {next : ℕ} → cutRow s at ≡ Cut cells next → (at < next) × (next ≤ length s)
 cut-there s at {cells} {next} e = go (ltb at (length s)) refl

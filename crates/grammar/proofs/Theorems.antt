@@ -10,16 +10,16 @@ use lib.ListN.{length, drop}
 use Rattle.grammar.specs.declared.cut.Cell.{Cell}
 use Rattle.grammar.specs.declared.cut.Cells.{Cells}
 use Rattle.grammar.specs.declared.cut.Mode.the-variants.{Fresh}
-use Rattle.grammar.specs.declared.cut.FieldCut.the-variants.{Next, Last}
+use Rattle.grammar.specs.declared.cut.FieldCut.the-variants.{Next, Last, Fault}
 use Rattle.grammar.specs.declared.cut.RowCut.the-variants.{Cut, NoRow, Broken}
 use Rattle.grammar.specs.declared.say.Number.the-variants.{Is}
 use Rattle.grammar.specs.declared.count.RowsCounted.the-variants.{All, UpTo}
-use Rattle.grammar.specs.Grammar.{comma, cr, lf, Field, content, Written, fieldText, Row, WrittenRow, rowText, RowAt, ended, Sheet, BeginsWith}
+use Rattle.grammar.specs.Grammar.{comma, cr, lf, Field, content, Written, fieldText, Row, WrittenRow, rowText, RowAt, ended, last, Sheet, BeginsWith}
 use Rattle.grammar.specs.Say.{ProperNumber, isWord, saysWords, numberAt, placeAmong}
 use Rattle.grammar.specs.Cut.{emptyAt, noCells, fieldFrom, cutField, cutRow}
 use Rattle.grammar.specs.Where.{holdsQuote, cellOf, cellsOf, CellHolds, RowHolds}
 use Rattle.grammar.specs.Rows.{onRow, rowsFrom, countRows}
-use Rattle.grammar.specs.Meaning.{CutRow, SheetOf, BrokenAfter, FirstFault, Threefold, WordAt}
+use Rattle.grammar.specs.Meaning.{CutRow, SheetOf, BrokenRow, BrokenAfter, FirstFieldFault, Threefold, WordAt}
 use Rattle.grammar.proofs.Written as written
 use Rattle.grammar.proofs.Found as found
 use Rattle.grammar.proofs.Unique as unique
@@ -28,24 +28,26 @@ use Rattle.grammar.proofs.Contents as contents
 use Rattle.grammar.proofs.Naming as naming
 use Rattle.grammar.proofs.Exact as exact
 use Rattle.grammar.proofs.Whole as whole
+use Rattle.grammar.proofs.Fields as broken
 
 module _ (s : List ℕ) (at : ℕ) where
   -- The row cutter finds the row that the grammar has at a position, with the cells of its fields, and goes on behind it.
   pub row-is-found : {r : Row} {rest : List ℕ} → RowAt (drop at s) r rest → cutRow s at ≡ Cut (cellsOf noCells at r) (length s - length rest)
   row-is-found a = exact.row-is-cut s at a
 
-  -- It finds a row only where the grammar has one: the cells hold that row's fields, and the rest of the sheet begins at `next`.
+  -- It finds a row only where the grammar has one: the cells hold that row's fields and lie where the row lies, and the rest of the
+  -- sheet begins at `next`.
   pub found-is-row : {cells : Cells} {next : ℕ} → cutRow s at ≡ Cut cells next → CutRow s at cells next
   found-is-row e = exact.cut-is-row s at e
 
-  -- A position at the sheet's end or behind it has no row.
-  pub behind-no-row : length s ≤ at → cutRow s at ≡ NoRow
-  behind-no-row h = reading.cut-behind s at h
+  -- It finds none exactly at the sheet's end and behind it.
+  pub behind-no-row : (cutRow s at ≡ NoRow) ↔ (length s ≤ at)
+  behind-no-row = (reading.none-behind s at, reading.cut-behind s at)
 
-  -- Where the row cutter reports a fault at a byte, that byte is the first at which no continuation could be a well-formed row
-  -- behind the rows so far, or the sheet's length where it ends too soon.
-  pub fault-is-first : {byte : ℕ} (rs : List Row) → BeginsWith s rs (drop at s) → cutRow s at ≡ Broken byte → FirstFault s rs byte
-  fault-is-first {byte} rs l e = whole.fault-first s at byte rs l e
+  -- It reports a fault at a byte exactly when bytes are left, they begin with no row, and that byte is the first at which no
+  -- continuation could be a well-formed row behind the rows so far, or the sheet's length where it ends too soon.
+  pub fault-is-first : (rs : List Row) → BeginsWith s rs (drop at s) → (byte : ℕ) → (cutRow s at ≡ Broken byte) ↔ BrokenRow s rs (drop at s) byte
+  fault-is-first rs l byte = whole.fault-exact s at rs l byte
 
   -- A reader goes over the rows in their order: what is read from a position on is the row there, and then what is read from
   -- behind it.
@@ -53,8 +55,15 @@ module _ (s : List ℕ) (at : ℕ) where
   reader-goes-on = reading.rows-next s at
 
 -- Every row that the grammar can write is cut back to itself, with or without the CRLF behind it.
-pub round-trip : (r : Row) (rest : List ℕ) → WrittenRow r → cutRow (rowText r ++ (cr ∷ lf ∷ rest)) 0 ≡ Cut (cellsOf noCells 0 r) (length (rowText r ++ (cr ∷ lf ∷ rest)) - length rest)
-round-trip r rest w = exact.row-is-cut (rowText r ++ (cr ∷ lf ∷ rest)) 0 (ended w refl)
+module _ (r : Row) (w : WrittenRow r) where
+  pub round-trip : (rest : List ℕ) → cutRow (rowText r ++ (cr ∷ lf ∷ rest)) 0 ≡ Cut (cellsOf noCells 0 r) (length (rowText r ++ (cr ∷ lf ∷ rest)) - length rest)
+  round-trip rest = exact.row-is-cut (rowText r ++ (cr ∷ lf ∷ rest)) 0 (ended w refl)
+
+  -- Without it a row of no bytes at all is none.
+  pub round-trip-last : (rowText r ≡ [] → ⊥) → cutRow (rowText r) 0 ≡ Cut (cellsOf noCells 0 r) (length (rowText r))
+  round-trip-last n =
+      let m : length (rowText r) - 0 ≡ length (rowText r) = omega arith in
+      exact.row-is-cut (rowText r) 0 (last w refl n) ∙ ap (Cut (cellsOf noCells 0 r)) m
 
 -- A sheet has one list of rows.
 pub one-reading : {text : List ℕ} {rs ss : List Row} → Sheet text rs → Sheet text ss → rs ≡ ss
@@ -65,9 +74,9 @@ module _ (s : List ℕ) where
   pub counted-is-sheet : (n : ℕ) → (countRows s ≡ All n) ↔ SheetOf s n
   counted-is-sheet n = whole.count-exact s n
 
-  -- Otherwise they are the rows in front of the one that is broken.
-  pub counted-up-to : {n byte : ℕ} → countRows s ≡ UpTo n byte → BrokenAfter s n byte
-  counted-up-to e = whole.count-broken s e
+  -- They are counted up to a row exactly when they are the rows in front of one that is broken, with the byte where that breaks.
+  pub counted-up-to : (n byte : ℕ) → (countRows s ≡ UpTo n byte) ↔ BrokenAfter s n byte
+  counted-up-to n byte = whole.count-broken s n byte
 
   -- A field is a word without quotes exactly when its content is.
   pub word-is-content : {cell : Cell} (f : Field) (word : List ℕ) → CellHolds s cell f → holdsQuote word ≡ false
@@ -109,3 +118,8 @@ module _ (s : List ℕ) (at : ℕ) (f : Field) (w : Written f) where
 pub found-is-field : (s : List ℕ) (at : ℕ) → found.FieldFound (drop at s) (cutField s at)
 unfolding cutField
 found-is-field s at = found.field-found (drop at s) Fresh (emptyAt at) at found.in-fresh
+
+-- It reports a fault at a byte exactly when that byte is the first at which no continuation could be a well-formed field, or the
+-- sheet's length where it ends too soon.
+pub field-fault-is-first : (s : List ℕ) (at byte : ℕ) → (cutField s at ≡ Fault byte) ↔ FirstFieldFault s at byte
+field-fault-is-first s at byte = broken.field-fault-exact s at byte

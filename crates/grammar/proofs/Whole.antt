@@ -4,12 +4,9 @@ use Prim.Native.Nat.{ℕ, zero, suc, _+_, _-_, _≤_, _<_}
 use native.Mathlib.Omega.{arith}
 use mathlib.Core.Path.{_≡_, refl, sym, ap, _∙_}
 use mathlib.Core.Logic.{_↔_}
-use mathlib.Core.Bool.{Bool, true, false}
 use mathlib.Core.List.{List, [], _∷_, _++_, append-assoc}
-use lib.ListN.{length, take, drop, length-append, length-drop, drop-of-length-le}
+use lib.ListN.{length, take, drop, length-append, length-drop}
 use lib.Seq.{take-at}
-use lib.Dec.{ltb}
-use borrow.Author.Tests.{ltb-true, ltb-false}
 use Rattle.grammar.specs.declared.cut.Mode.the-variants.{Fresh}
 use Rattle.grammar.specs.declared.cut.Cells.{Cells}
 use Rattle.grammar.specs.declared.cut.RowCut.{RowCut}
@@ -19,13 +16,13 @@ use Rattle.grammar.specs.Grammar.{cr, lf, Row, rowText, RowAt, ended, la
 use Rattle.grammar.specs.Cut.{emptyAt, noCells, rowFrom, cutRow}
 use Rattle.grammar.specs.Rows.{Rows, onRow, rowsFrom, countFrom, countRows}
 use Rattle.grammar.specs.Rows
-use Rattle.grammar.specs.Meaning.{SheetOf, BrokenAfter, FirstFault}
+use Rattle.grammar.specs.Meaning.{SheetOf, BrokenRow, BrokenAfter, FirstFault}
 use Rattle.grammar.proofs.Found.{in-fresh, row-crlf, row-sheet, RowFound, row-found}
 use Rattle.grammar.proofs.Unique.{row-unique, no-row-at, sheet-unique}
-use Rattle.grammar.proofs.Faults.{EndsAt, Some, some, Stuck, row-stuck}
+use Rattle.grammar.proofs.Faults.{EndsAt, Some, some, Stuck, row-stuck, front-longer}
 use Rattle.grammar.proofs.Steps.{cut-within}
-use Rattle.grammar.proofs.Reading.{cut-behind, cut-there, rows-next}
-use Rattle.grammar.proofs.Exact.{row-read, rest-shorter, cut-from, row-is-cut, cut-is-row}
+use Rattle.grammar.proofs.Reading.{cut-there, rows-next}
+use Rattle.grammar.proofs.Exact.{row-read, rest-shorter, cut-from, cut-is-row, no-row-end, broken-there, broken-some, broken-none}
 
 -- ---- rows in front of a text
 
@@ -93,14 +90,7 @@ module _ (s : List ℕ) (at : ℕ) where
       let c = cut-is-row s at e in
       let w = cut-there s at e in
       one-more cells next (rowsFrom s next) (c .there) (c .behind) (more next (w .0) (w .1))
-  turn NoRow e more = is-sheet [] (rw (no-row-end e) no-row) (λ n. ap All (omega arith))
-    where
-      no-row-end : cutRow s at ≡ NoRow → drop at s ≡ []
-      no-row-end e′ = go (ltb at (length s)) refl
-        where
-          go : (q : Bool) → ltb at (length s) ≡ q → drop at s ≡ []
-          go true q = absurd (rw e′ at (cut-within s at (ltb-true at (length s) q) refl))
-          go false q = drop-of-length-le s (ltb-false at (length s) q)
+  turn NoRow e more = is-sheet [] (rw (no-row-end s at e) no-row) (λ n. ap All (omega arith))
   turn (Broken byte) e more = is-broken [] at byte here e (λ n. ap (λ (m : ℕ). UpTo m byte) (omega arith))
 
 reading : (s : List ℕ) (most at : ℕ) → length s - at < most → Reading s at (rowsFrom s at)
@@ -110,24 +100,10 @@ reading s (suc most) at h = rw (rows-next s at) (turn s at (cutRow s at) refl (�
 clash : {cells : Cells} {next byte : ℕ} {A : Type 0} → Cut cells next ≡ Broken byte → A
 clash e = let z : _≡_ {A = ℕ} 0 1 = cc in absurd (omega arith)
 
--- where a row breaks there is a byte
-broken-there-in : (s : List ℕ) (at : ℕ) {byte : ℕ} → cutRow s at ≡ Broken byte → at < length s
-broken-there-in s at {byte} e = go (ltb at (length s)) refl
-  where
-    go : (q : Bool) → ltb at (length s) ≡ q → at < length s
-    go true q = ltb-true at (length s) q
-    go false q =
-        let h = cut-behind s at (ltb-false at (length s) q) in
-        let z : _≡_ {A = ℕ} 0 1 = cc in
-        absurd (omega arith)
-
--- and no sheet
-no-sheet-there : (s : List ℕ) (at : ℕ) {byte : ℕ} {text : List ℕ} {ss : List Row} → cutRow s at ≡ Broken byte → Sheet text ss → text ≡ drop at s → ⊥
-no-sheet-there s at e no-row h =
-    let l = broken-there-in s at e in
-    let n : 0 ≡ length s - at = ap length h ∙ length-drop at s in
-    omega arith
-no-sheet-there s at e (row a t) h = clash (sym (row-is-cut s at (rw h at a)) ∙ e)
+-- a text that has bytes and begins with no row is no sheet
+no-sheet : {t : List ℕ} {ss : List Row} → Sheet t ss → (t ≡ [] → ⊥) → ((r : Row) (behind : List ℕ) → RowAt t r behind → ⊥) → ⊥
+no-sheet no-row n m = n refl
+no-sheet (row a h) n m = m _ _ a
 
 module _ (s : List ℕ) where
   all-counted : Reading s 0 (rowsFrom s 0) → (n : ℕ) → (countRows s ≡ All n) ↔ SheetOf s n
@@ -138,17 +114,8 @@ module _ (s : List ℕ) where
   )
   all-counted (is-broken rs stop byte l b c) n = (
     (λ e. let q = c 0 in let z : _≡_ {A = ℕ} 0 1 = cc in absurd (omega arith)),
-    (λ o. absurd (no-sheet-there s stop b (sheet-after l (o .is) .is) refl)),
+    (λ o. absurd (no-sheet (sheet-after l (o .is) .is) (broken-some s stop b) (broken-none s stop b))),
   )
-
-  broken-counted : Reading s 0 (rowsFrom s 0) → {n byte : ℕ} → countRows s ≡ UpTo n byte → BrokenAfter s n byte
-  unfolding countRows
-  broken-counted (is-sheet rs h c) e = let q = c 0 in let z : _≡_ {A = ℕ} 0 1 = cc in absurd (omega arith)
-  broken-counted (is-broken rs stop b l d c) {n} {byte} e =
-      let q = c 0 in
-      let z : 0 + length rs ≡ n = cc in
-      let y : b ≡ byte = cc in
-      record { rows = rs; stop = stop; leads = l; broken-there = d ∙ ap Broken y; count = omega arith }
 
   from-start : Reading s 0 (rowsFrom s 0)
   from-start = reading s (suc (length s)) 0 (omega arith)
@@ -156,10 +123,6 @@ module _ (s : List ℕ) where
   -- a sheet is counted whole exactly when it is one
   pub count-exact : (n : ℕ) → (countRows s ≡ All n) ↔ SheetOf s n
   count-exact = all-counted from-start
-
-  -- and up to the row that breaks otherwise
-  pub count-broken : {n byte : ℕ} → countRows s ≡ UpTo n byte → BrokenAfter s n byte
-  count-broken = broken-counted from-start
 
 -- ---- where a row breaks
 
@@ -200,22 +163,16 @@ one-row {text} i (Cut cells next) e n h (row-crlf r rest w q) =
     go (suc x) p k m = omega arith
 
 module _ (s : List ℕ) (at byte : ℕ) (rs : List Row) (l : BeginsWith s rs (drop at s)) (e : cutRow s at ≡ Broken byte) where
-  byte-there : at < length s
-  byte-there = broken-there-in s at e
-
-  some-left : drop at s ≡ [] → ⊥
-  some-left h = let n : length s - at ≡ 0 = sym (length-drop at s) ∙ ap length h in let t = byte-there in omega arith
-
-  stuck : Stuck (rowFrom Fresh (emptyAt at) noCells at) (drop at s) at byte
-  stuck = rw (sym (cut-from s at byte-there) ∙ e) at (row-stuck (drop at s) Fresh (emptyAt at) noCells at)
+  stuck : Stuck EndsAt Broken (rowFrom Fresh (emptyAt at) noCells at) (drop at s) at byte
+  stuck = rw (sym (cut-from s at (broken-there s at e)) ∙ e) at (row-stuck (drop at s) Fresh (emptyAt at) noCells at)
 
   s-is : s ≡ rowsText rs ++ (stuck .before ++ stuck .behind)
-  s-is = leads-text l some-left ∙ ap (λ (t : List ℕ). rowsText rs ++ t) (stuck .split)
+  s-is = leads-text l (broken-some s at e) ∙ ap (λ (t : List ℕ). rowsText rs ++ t) (stuck .split)
 
   rows-long : length (rowsText rs) ≡ at
   rows-long =
-      let n : length s ≡ length (rowsText rs) + (length s - at) = ap length (leads-text l some-left) ∙ length-append (rowsText rs) (drop at s) ∙ ap (λ (m : ℕ). length (rowsText rs) + m) (length-drop at s) in
-      let t = byte-there in
+      let n : length s ≡ length (rowsText rs) + (length s - at) = ap length (leads-text l (broken-some s at e)) ∙ length-append (rowsText rs) (drop at s) ∙ ap (λ (m : ℕ). length (rowsText rs) + m) (length-drop at s) in
+      let t = broken-there s at e in
       omega arith
 
   -- the sheet up to n bytes behind the place where the row broke, with another text behind it
@@ -231,7 +188,7 @@ module _ (s : List ℕ) (at byte : ℕ) (rs : List Row) (l : BeginsWith s rs (dr
   mended-sheet : Sheet (take byte s ++ stuck .mend) (rs ++ (mend-one .is-row ∷ []))
   mended-sheet =
       rw (up-to (stuck .before) (stuck .behind) (stuck .mend) refl byte (stuck .place))
-      (leads-sheet (leads-any (stuck .before ++ stuck .mend) l some-left) (row (mend-one .is) no-row))
+      (leads-sheet (leads-any (stuck .before ++ stuck .mend) l (broken-some s at e)) (row (mend-one .is) no-row))
 
   no-more-there : (other : List ℕ) (r : Row) (more : List Row) (behind : List ℕ) → stuck .behind ≡ behind → byte < length s
       → Sheet (take (byte + 1) s ++ other) (rs ++ (r ∷ more)) → ⊥
@@ -245,16 +202,70 @@ module _ (s : List ℕ) (at byte : ℕ) (rs : List Row) (l : BeginsWith s rs (dr
       let text-is : take (byte + 1) s ++ other ≡ rowsText rs ++ (stuck .before ++ (c ∷ other)) =
       up-to (stuck .before ++ (c ∷ [])) behind other (rw h (sym (append-assoc (stuck .before) (c ∷ []) behind))) (byte + 1) (let p = stuck .place in simp length-append (omega arith))
       ∙ ap (λ (x : List ℕ). rowsText rs ++ x) (append-assoc (stuck .before) (c ∷ []) other) in
-      let f = front (sheet-behind rs (leads-any (stuck .before ++ (c ∷ other)) l some-left) (rw text-is at t)) in
+      let f = front (sheet-behind rs (leads-any (stuck .before ++ (c ∷ other)) l (broken-some s at e)) (rw text-is at t)) in
       clash (sym (row-read at noCells (f .is)) ∙ stuck .hopeless c behind other h)
 
   -- where the row cutter reports a fault, it is the first
-  pub fault-first : FirstFault s rs byte
+  fault-first : FirstFault s rs byte
   fault-first = record {
-    within = let w = cut-within s at byte-there e in w .1;
+    within = let w = cut-within s at (broken-there s at e) e in w .1;
     mend = stuck .mend;
     next = mend-one .is-row;
     mended = mended-sheet;
     hopeless = λ other r more n t. no-more-there other r more (stuck .behind) refl n t;
-    too-soon = λ r more t. no-sheet-there s at e (sheet-behind rs l t) refl;
+    too-soon = λ r more t. no-sheet (sheet-behind rs l t) (broken-some s at e) (broken-none s at e);
   }
+
+-- a fault has one byte
+not-before : {s : List ℕ} {rs : List Row} {a b : ℕ} → FirstFault s rs a → FirstFault s rs b → a < b → ⊥
+not-before {s} {rs} {a} {b} f g h = let w = g .within in f .hopeless _ (g .next) [] (omega arith) (rw (front-longer s a b (g .mend) h) at (g .mended))
+
+byte-once : {s : List ℕ} {rs : List Row} {a b : ℕ} → FirstFault s rs a → FirstFault s rs b → a ≡ b
+byte-once f g = omega (arith, not-before f g, not-before g f)
+
+module _ (s : List ℕ) (at : ℕ) (rs : List Row) (l : BeginsWith s rs (drop at s)) where
+  broken-row : {byte : ℕ} → cutRow s at ≡ Broken byte → BrokenRow s rs (drop at s) byte
+  broken-row {byte} e = record { some = broken-some s at e; no-row = broken-none s at e; first = fault-first s at byte rs l e }
+
+  -- the row cutter reports a fault exactly where the row breaks
+  pub fault-exact : (byte : ℕ) → (cutRow s at ≡ Broken byte) ↔ BrokenRow s rs (drop at s) byte
+  fault-exact byte = (broken-row, (λ o. go (cutRow s at) refl o))
+    where
+      go : (cut : RowCut) → cutRow s at ≡ cut → BrokenRow s rs (drop at s) byte → cut ≡ Broken byte
+      go (Cut cells next) e o = let c = cut-is-row s at e in absurd (o .no-row (c .row) (c .rest) (c .there))
+      go NoRow e o = absurd (o .some (no-row-end s at e))
+      go (Broken b) e o = ap Broken (byte-once (fault-first s at b rs l e) (o .first))
+
+-- ---- the rows in front of a broken one
+
+-- rows up to a broken one are read in one way
+rows-once : {text t u : List ℕ} {rs ss : List Row} → BeginsWith text rs t → BeginsWith text ss u → ((r : Row) (behind : List ℕ) → RowAt t r behind → ⊥)
+    → ((r : Row) (behind : List ℕ) → RowAt u r behind → ⊥) → rs ≡ ss
+rows-once here here n m = refl
+rows-once here (on a l) n m = absurd (n _ _ a)
+rows-once (on a l) here n m = absurd (m _ _ a)
+rows-once (on a l) (on b k) n m = let q = row-unique a b refl in rw (q .first, rows-once l (rw (sym (q .behind)) at k) n m)
+
+module _ (s : List ℕ) where
+  up-to-broken : Reading s 0 (rowsFrom s 0) → (n byte : ℕ) → (countRows s ≡ UpTo n byte) ↔ BrokenAfter s n byte
+  unfolding countRows
+  up-to-broken (is-sheet rs h c) n byte = (
+    (λ e. let q = c 0 in let z : _≡_ {A = ℕ} 0 1 = cc in absurd (omega arith)),
+    (λ o. absurd (no-sheet (sheet-after (o .leads) h .is) (o .broken .some) (o .broken .no-row))),
+  )
+  up-to-broken (is-broken rs stop b l d c) n byte = (
+    (λ e.
+        let q = c 0 in
+        let z : 0 + length rs ≡ n = cc in
+        let y : b ≡ byte = cc in
+        record { rows = rs; rest = drop stop s; count = omega arith; leads = l; broken = rw y at (broken-row s stop rs l d) }),
+    (λ o.
+        let r = rows-once l (o .leads) (broken-none s stop d) (o .broken .no-row) in
+        let y = byte-once (rw r at (fault-first s stop b rs l d)) (o .broken .first) in
+        let z : 0 + length rs ≡ n = let k = o .count in let m = ap length r in omega arith in
+        c 0 ∙ rw (z, y)),
+  )
+
+  -- a sheet is counted up to a row exactly when that row is the one that breaks
+  pub count-broken : (n byte : ℕ) → (countRows s ≡ UpTo n byte) ↔ BrokenAfter s n byte
+  count-broken = up-to-broken (from-start s)

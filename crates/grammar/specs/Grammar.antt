@@ -1,5 +1,8 @@
 -- Sheets as RFC 4180 and 01, "Site sheet", write them: which bytes are a field, a row, a sheet. Nothing here says how a
--- sheet is read.
+-- sheet is read. In one thing more is taken than RFC 4180 has: the text of its fields is printable ASCII (TEXTDATA; between quotes also
+-- comma, CR, LF and the doubled quote). Here a bare field holds all bytes but quote, comma, CR and LF, and a quoted one any, as 02
+-- wants in C-16 ("a bare field may hold all bytes but quote, comma, CR and LF") and C-21 ("Bytes of 128 and up may stand in
+-- a name").
 use Prim.Native.Nat.{ℕ}
 use mathlib.Core.Path.{_≡_}
 use mathlib.Core.Bool.{cond}
@@ -19,7 +22,7 @@ cr = 13
 abbrev pub lf : ℕ
 lf = 10
 
--- a byte that may stand in a bare field: "any bytes but quote, comma, CR and LF"
+-- a byte that may stand in a bare field: 02, C-16: "all bytes but quote, comma, CR and LF"
 pub record Plain (b : ℕ) : Type 0 where
   pub no-quote : b ≡ quote → ⊥
   pub no-comma : b ≡ comma → ⊥
@@ -36,9 +39,9 @@ pub data Field : Type 0 where
   quoted : List ℕ → Field
 
 pub data Written : Field → Type 0 where
-  -- RFC 4180, 2: non-escaped = *TEXTDATA
+  -- RFC 4180, 2: non-escaped = *TEXTDATA, with `Plain` for TEXTDATA
   is-bare : {c : List ℕ} → AllPlain c → Written (bare c)
-  -- the content of a quoted field may hold any byte
+  -- RFC 4180, 2: escaped, with any byte between the quotes
   is-quoted : {c : List ℕ} → Written (quoted c)
 
 abbrev pub content : Field → List ℕ
@@ -54,6 +57,12 @@ escape (b ∷ bs) = cond (eqb b quote) (quote ∷ b ∷ escape bs) (b ∷ escape
 unfoldable pub fieldText : Field → List ℕ
 fieldText (bare c) = c
 fieldText (quoted c) = quote ∷ escape c ++ (quote ∷ [])
+
+-- a text begins with this field, and behind it stand a comma, a CRLF or the text's end
+pub data FieldAt : List ℕ → Field → Type 0 where
+  before-comma : {text : List ℕ} {f : Field} (rest : List ℕ) → Written f → text ≡ fieldText f ++ (comma ∷ rest) → FieldAt text f
+  before-crlf : {text : List ℕ} {f : Field} (rest : List ℕ) → Written f → text ≡ fieldText f ++ (cr ∷ lf ∷ rest) → FieldAt text f
+  before-end : {text : List ℕ} {f : Field} → Written f → text ≡ fieldText f → FieldAt text f
 
 -- a row: one or more fields
 pub data Row : Type 0 where

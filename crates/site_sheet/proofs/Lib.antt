@@ -4,6 +4,7 @@
 --     Loop       the loop over the rows
 --     Said       what lines say with one more behind them
 --     Held       the tables hold what the lines say
+--     Obeyed     the rules said of the lines are those of the tables that hold them
 --     Outcome    what is wrong with a line, or nothing
 --     Rows       which line a row is
 --     Text       which lines a text says
@@ -15,6 +16,7 @@ pub mod Bounds
 pub mod Loop
 pub mod Said
 pub mod Held
+pub mod Obeyed
 pub mod Outcome
 pub mod Rows
 pub mod Text

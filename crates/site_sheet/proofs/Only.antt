@@ -1,19 +1,16 @@
 -- What the rules give of a sheet is what is said of it: no sheet has two answers.
 -- Assumes nothing.
-use Prim.Native.Nat.{ℕ, _+_, _-_, _≤_}
+use Prim.Native.Nat.{ℕ, _+_, _-_}
 use native.Mathlib.Omega.{arith}
 use mathlib.Core.Path.{_≡_, refl, sym, ap, _∙_}
-use mathlib.Core.Bool.{true, false}
+use mathlib.Core.Bool.{true}
 use mathlib.Core.List.{List, []}
-use lib.ListN.{length, getD}
+use lib.ListN.{length}
 use borrow.Author.Tests.{lt-ltb, le-ltb, ne-eqb}
-use Rattle.tables.specs.Below.{Smallest, SmallestPair, Answers}
-use Rattle.tables.specs.Way.{LeadsOut}
-use Rattle.tables.specs.Rules.{FirstLocation, ExitDoor, ExitRight}
+use Rattle.tables.specs.Below.{Smallest, SmallestPair}
 use Rattle.tables.specs.declared.Found.the-variants as found
 use Rattle.tables.specs.declared.RightFound.the-variants as pair
-use Rattle.tables.specs.Tests.{firstNoExit, firstStray, firstNoDoor, firstNoRight}
-use Rattle.tables.proofs.Answers.{rule-6, rule-7, rule-8, rule-9, rule-10}
+use Rattle.tables.specs.Tests.{firstStray, firstNoDoor, firstNoRight}
 use Rattle.tables.proofs.Cases.{either}
 use Rattle.grammar.specs.declared.cut.RowCut.{RowCut}
 use Rattle.grammar.specs.declared.cut.RowCut.the-variants.{Cut, NoRow, Broken}
@@ -33,9 +30,10 @@ use Rattle.site_sheet.specs.declared.SiteRead.{SiteRead}
 use Rattle.site_sheet.specs.Line.{siteHeaderAt}
 use Rattle.site_sheet.specs.Draft.{blankDraft, planIn}
 use Rattle.site_sheet.specs.Site.{verdictOf, linesIn, readLines, acceptedSite, judged, settled, afterHeader, siteAt}
-use Rattle.site_sheet.specs.Says.{SiteHeaderRow, LineInRange, site-range, door-range, exit-range, right-range, NotFirst, door-first, exit-first, right-first, Fine, Wrong, of-form, no-site, out-of-range, said-again}
-use Rattle.site_sheet.specs.Gives.{Headed, FineLines, one-fine, WrongAt, here, further, draftAfter, Tabled, Six, Seven, Eight, Nine, Ten, Obeys, Gives, gives-0, gives-1, gives-header, gives-row, gives-5, gives-6, gives-7, gives-8, gives-9, gives-10}
-use Rattle.site_sheet.proofs.Held.{Held, Ranged, held-blank}
+use Rattle.site_sheet.specs.Says.{peopleIn, locationsIn, SiteHeaderRow, LineInRange, site-range, door-range, exit-range, right-range, NotFirst, door-first, exit-first, right-first, Fine, Wrong, of-form, no-site, out-of-range, said-again}
+use Rattle.site_sheet.specs.Gives.{Headed, FineLines, one-fine, WrongAt, here, further, RowsFine, ExitOf, ComesOut, ExitHasDoor, RightToExit, ComesIn, Six, Seven, Eight, Nine, Ten, Obeys, Gives, gives-0, gives-1, gives-header, gives-row, gives-5, gives-6, gives-7, gives-8, gives-9, gives-10}
+use Rattle.site_sheet.proofs.Held.{Held, held-blank}
+use Rattle.site_sheet.proofs.Obeyed.{Ruled, rules-of}
 use Rattle.site_sheet.proofs.Outcome.{fine}
 use Rattle.site_sheet.proofs.Rows.{headerFrom, header-same, header-is, is-header-row}
 use Rattle.site_sheet.proofs.Text.{text-says, text-unique}
@@ -103,6 +101,10 @@ all-not-wrong (one-fine x a) (further y w) = all-not-wrong a w
 
 -- ---- the whole sheet
 
+-- the tables into which lines are read
+abbrev pub tablesOf : List SiteLine → Draft
+tablesOf lines = readLines blankDraft 1 lines .draft
+
 module _ (most : ℕ) (s : List ℕ) where
   pub headed-reads : {lines : List SiteLine} → Headed most s lines → siteAt most s ≡ settled (readLines blankDraft 1 lines)
   unfolding siteAt afterHeader
@@ -116,21 +118,21 @@ module _ (most : ℕ) (s : List ℕ) where
   row-given : {lines : List SiteLine} {k : ℕ} {f : Fault} → ReadOf [] lines 1 blankDraft (readLines blankDraft 1 lines) → WrongAt [] lines k f
       → settled (readLines blankDraft 1 lines) .verdict ≡ verdictOf f (k + 1)
   unfolding settled
-  row-given (all a e d h) w = absurd (all-not-wrong a w)
+  row-given (all a e h) w = absurd (all-not-wrong a w)
   row-given {k = k} {f = f} (stopped j g v e n q) w =
       let o = wrong-once v w in
       let m : 1 + j ≡ k + 1 = let p = o .place in omega arith in
       rw (e, q, n, m, o .fault)
 
-  tabled-given : {d : Draft} → Tabled most s d → siteAt most s ≡ judged d
+  fine-given : {lines : List SiteLine} → RowsFine most s lines → siteAt most s ≡ judged (tablesOf lines)
   unfolding settled
-  tabled-given {d} t = headed-reads (t .headed) ∙ go (read-of (t .lines) [] 1 blankDraft held-blank)
+  fine-given {lines} t = headed-reads (t .headed) ∙ go (read-of lines [] 1 blankDraft held-blank)
     where
-      go : ReadOf [] (t .lines) 1 blankDraft (readLines blankDraft 1 (t .lines)) → settled (readLines blankDraft 1 (t .lines)) ≡ judged d
-      go (all a e q h) =
+      go : ReadOf [] lines 1 blankDraft (readLines blankDraft 1 lines) → settled (readLines blankDraft 1 lines) ≡ judged (tablesOf lines)
+      go (all a e h) =
           let b = h .begun (t .some) in
-          let z : draftAfter blankDraft (t .lines) .locations ≡ 0 → ⊥ = λ y. omega arith in
-          rw (e, q, ne-eqb _ 0 z, t .tables)
+          let z : tablesOf lines .locations ≡ 0 → ⊥ = λ y. omega arith in
+          rw (e, ne-eqb _ 0 z)
       go (stopped k f w e n q) = absurd (all-not-wrong (t .fine) w)
 
   header-given : (cut : RowCut) → cutRow s 0 ≡ cut → ((r : Row) (rest : List ℕ) → RowAt s r rest → SiteHeaderRow r → ⊥) → afterHeader s cut .verdict ≡ BadRow 0
@@ -142,79 +144,76 @@ module _ (most : ℕ) (s : List ℕ) where
   header-given NoRow e n = refl
   header-given (Broken byte) e n = refl
 
-  module _ {d : Draft} (t : Tabled most s d) (r : Ranged d) where
-    ranged-7 : Answers (firstStray (d .locations) (d .exit)) (LeadsOut (d .exit)) (d .locations)
-    ranged-7 = let f = r .locations-from in rule-7 (d .locations) (d .exit) (omega arith) (r .locations-to) (r .exits)
+-- what is found first in tables whose searches answer by the lines
+module _ {lines : List SiteLine} {d : Draft} (r : Ruled lines d) where
+  given-6 : {k : ℕ} → Smallest (ExitOf lines) (locationsIn lines) k → judged d .verdict ≡ NoExit k
+  unfolding judged
+  given-6 {k} m = rw (r .six .at-back k m)
 
-    given-6 : {k : ℕ} → Smallest (λ l. 1 ≤ l → getD (d .given) l false ≡ true) (d .locations) k → judged d .verdict ≡ NoExit k
+  module _ (six : Six lines) where
+    given-7 : {k : ℕ} → Smallest (ComesOut lines) (locationsIn lines) k → judged d .verdict ≡ Stray k
     unfolding judged
-    given-6 {k} m = rw (rule-6 (d .locations) (d .given) .at-back k m)
+    given-7 {k} m = rw (r .six .none-back six, r .seven six .at-back k m)
 
-    module _ (six : Six d) where
-      e₆ : firstNoExit (d .locations) (d .given) ≡ found.Nothing
-      e₆ = rule-6 (d .locations) (d .given) .none-back six
+    module _ (seven : Seven lines) where
+      e₇ : firstStray (d .locations) (d .exit) ≡ found.Nothing
+      e₇ = r .seven six .none-back seven
 
-      given-7 : {k : ℕ} → Smallest (LeadsOut (d .exit)) (d .locations) k → judged d .verdict ≡ Stray k
+      given-8 : {k : ℕ} → Smallest (ExitHasDoor lines) (locationsIn lines) k → judged d .verdict ≡ NoDoor k
       unfolding judged
-      given-7 {k} m = rw (e₆, ranged-7 .at-back k m)
+      given-8 {k} m = rw (r .six .none-back six, e₇, r .eight six .at-back k m)
 
-      module _ (seven : Seven d) where
-        e₇ : firstStray (d .locations) (d .exit) ≡ found.Nothing
-        e₇ = ranged-7 .none-back seven
+      module _ (eight : Eight lines) where
+        e₈ : firstNoDoor (planIn d) ≡ found.Nothing
+        e₈ = r .eight six .none-back eight
 
-        given-8 : {k : ℕ} → Smallest (ExitDoor (planIn d)) (d .locations) k → judged d .verdict ≡ NoDoor k
+        given-9 : {p l : ℕ} → SmallestPair (RightToExit lines) (peopleIn lines) (locationsIn lines) p l → judged d .verdict ≡ NoRight p l
         unfolding judged
-        given-8 {k} m = rw (e₆, e₇, rule-8 (planIn d) .at-back k m)
+        given-9 {p} {l} m = rw (r .six .none-back six, e₇, e₈, r .nine six .at-back p l m)
 
-        module _ (eight : Eight d) where
-          e₈ : firstNoDoor (planIn d) ≡ found.Nothing
-          e₈ = rule-8 (planIn d) .none-back eight
+        module _ (nine : Nine lines) where
+          e₉ : firstNoRight (planIn d) (d .right) ≡ pair.Nothing
+          e₉ = r .nine six .none-back nine
 
-          given-9 : {p l : ℕ} → SmallestPair (ExitRight (planIn d) (d .right)) (d .people) (d .locations) p l → judged d .verdict ≡ NoRight p l
+          given-10 : {k : ℕ} → Smallest (ComesIn lines) (peopleIn lines) k → judged d .verdict ≡ ShutOut k
           unfolding judged
-          given-9 {p} {l} m = rw (e₆, e₇, e₈, rule-9 (planIn d) (d .right) .at-back p l m)
+          given-10 {k} m = rw (r .six .none-back six, e₇, e₈, e₉, r .ten .at-back k m)
 
-          module _ (nine : Nine d) where
-            e₉ : firstNoRight (planIn d) (d .right) ≡ pair.Nothing
-            e₉ = rule-9 (planIn d) (d .right) .none-back nine
-
-            given-10 : {k : ℕ} → Smallest (FirstLocation (planIn d) (d .right)) (d .people) k → judged d .verdict ≡ ShutOut k
-            unfolding judged
-            given-10 {k} m = rw (e₆, e₇, e₈, e₉, rule-10 (planIn d) (d .right) .at-back k m)
-
-            given-0 : Ten d → judged d ≡ acceptedSite d
-            unfolding judged
-            given-0 ten = rw (e₆, e₇, e₈, e₉, rule-10 (planIn d) (d .right) .none-back ten)
+          given-0 : Ten lines → judged d ≡ acceptedSite d
+          unfolding judged
+          given-0 ten = rw (r .six .none-back six, e₇, e₈, e₉, r .ten .none-back ten)
 
 -- the tables of a sheet whose rows are right hold what its lines say, and pass 3
-pub tabled-held : {most : ℕ} {s : List ℕ} {d : Draft} (t : Tabled most s d) → Held (t .lines) d
-tabled-held t = rw (t .tables) (go (read-of (t .lines) [] 1 blankDraft held-blank))
+pub fine-held : {most : ℕ} {s : List ℕ} {lines : List SiteLine} → RowsFine most s lines → Held lines (tablesOf lines)
+fine-held {lines = lines} t = go (read-of lines [] 1 blankDraft held-blank)
   where
-    go : ReadOf [] (t .lines) 1 blankDraft (readLines blankDraft 1 (t .lines)) → Held (t .lines) (draftAfter blankDraft (t .lines))
-    go (all a e q h) = h
+    go : ReadOf [] lines 1 blankDraft (readLines blankDraft 1 lines) → Held lines (tablesOf lines)
+    go (all a e h) = h
     go (stopped k f w e n q) = absurd (all-not-wrong (t .fine) w)
 
-tabled-ranged : {most : ℕ} {s : List ℕ} {d : Draft} → Tabled most s d → Ranged d
-tabled-ranged t = tabled-held t .ranged (t .some)
+fine-ruled : {most : ℕ} {s : List ℕ} {lines : List SiteLine} → RowsFine most s lines → Ruled lines (tablesOf lines)
+fine-ruled t = rules-of t (fine-held t)
+
+fine-says : {most : ℕ} {s : List ℕ} {lines : List SiteLine} {v : Verdict} → RowsFine most s lines → judged (tablesOf lines) .verdict ≡ v → siteAt most s .verdict ≡ v
+fine-says {most} {s} t e = ap (λ x. x .verdict) (fine-given most s t) ∙ e
+
+-- the record of an accepted sheet
+pub accepted-record : {most : ℕ} {s : List ℕ} (o : Obeys most s) → siteAt most s ≡ acceptedSite (tablesOf (o .lines))
+accepted-record {most} {s} o = fine-given most s (o .rows) ∙ given-0 (fine-ruled (o .rows)) (o .six) (o .seven) (o .eight) (o .nine) (o .ten)
 
 -- what the rules give is what is said
 pub gives-site : {most : ℕ} {s : List ℕ} {v : Verdict} → Gives most s v → siteAt most s .verdict ≡ v
 unfolding siteAt settled readLines
-gives-site {most} {s} (gives-0 o) =
-    ap (λ x. x .verdict) (tabled-given most s (o .rows) ∙ given-0 most s (o .rows) (tabled-ranged (o .rows)) (o .six) (o .seven) (o .eight) (o .nine) (o .ten))
+gives-site (gives-0 o) = ap (λ x. x .verdict) (accepted-record o)
 gives-site {most} {s} (gives-1 l) = rw (lt-ltb most (length s) l)
 gives-site {most} {s} (gives-header short n) = rw (le-ltb most (length s) short) (header-given most s (cutRow s 0) refl n)
 gives-site {most} {s} (gives-row {lines = lines} h w e) = ap (λ x. x .verdict) (headed-reads most s h) ∙ row-given most s (read-of lines [] 1 blankDraft held-blank) w ∙ sym e
 gives-site {most} {s} (gives-5 h) = ap (λ x. x .verdict) (headed-reads most s h)
-gives-site {most} {s} (gives-6 t m) = ap (λ x. x .verdict) (tabled-given most s t) ∙ given-6 most s t (tabled-ranged t) m
-gives-site {most} {s} (gives-7 t a m) = ap (λ x. x .verdict) (tabled-given most s t) ∙ given-7 most s t (tabled-ranged t) a m
-gives-site {most} {s} (gives-8 t a b m) = ap (λ x. x .verdict) (tabled-given most s t) ∙ given-8 most s t (tabled-ranged t) a b m
-gives-site {most} {s} (gives-9 t a b c m) = ap (λ x. x .verdict) (tabled-given most s t) ∙ given-9 most s t (tabled-ranged t) a b c m
-gives-site {most} {s} (gives-10 t a b c e m) = ap (λ x. x .verdict) (tabled-given most s t) ∙ given-10 most s t (tabled-ranged t) a b c e m
-
--- the record of an accepted sheet
-pub accepted-record : {most : ℕ} {s : List ℕ} (o : Obeys most s) → siteAt most s ≡ acceptedSite (o .tables)
-accepted-record {most} {s} o = tabled-given most s (o .rows) ∙ given-0 most s (o .rows) (tabled-ranged (o .rows)) (o .six) (o .seven) (o .eight) (o .nine) (o .ten)
+gives-site (gives-6 t m) = fine-says t (given-6 (fine-ruled t) m)
+gives-site (gives-7 t a m) = fine-says t (given-7 (fine-ruled t) a m)
+gives-site (gives-8 t a b m) = fine-says t (given-8 (fine-ruled t) a b m)
+gives-site (gives-9 t a b c m) = fine-says t (given-9 (fine-ruled t) a b c m)
+gives-site (gives-10 t a b c e m) = fine-says t (given-10 (fine-ruled t) a b c e m)
 
 wrong-refuses : (n : ℕ) {before lines : List SiteLine} {k : ℕ} {f : Fault} → WrongAt before lines k f → Accepted ≡ verdictOf f n → ⊥
 wrong-refuses n (here of-form) e = let z : _≡_ {A = ℕ} 0 1 = cc in omega arith

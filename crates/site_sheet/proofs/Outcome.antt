@@ -20,6 +20,7 @@ use Rattle.site_sheet.specs.Draft.{Taken, took, notTaken, siteRowFits, d
 use Rattle.site_sheet.specs.Site.{soundFault}
 use Rattle.site_sheet.specs.Says.{hasExit, hasRight, LineInRange, site-range, door-range, exit-range, right-range, Again, second-site, second-exit, same-right, NotFirst, door-first, exit-first, right-first, Fine, Wrong, of-form, no-site, out-of-range, said-again}
 use Rattle.site_sheet.proofs.Fits.{SiteIn, DoorIn, ExitIn, RightIn, site-in, door-in, exit-in, right-in, site-fit, door-fit, exit-fit, right-fit}
+use Rattle.site_sheet.proofs.Said.{has-exit, exit-has, right-row, right-has}
 use Rattle.site_sheet.proofs.Held.{Held, held-site, held-door, held-exit, held-right}
 
 pub data Outcome (before : List SiteLine) (d : Draft) (line : SiteLine) (t : Taken) : Type 0 where
@@ -130,7 +131,7 @@ module _ (before : List SiteLine) (d : Draft) (h : Held before d) where
       let i = exit-in (d .locations) l m e in
       let r : LineInRange before (Exit l m) = exit-range (i .inside) (rw (h .holds .locations) at (i .from)) (rw (h .holds .locations) at (i .to)) in
       either (Outcome before d (Exit l m)) (getD (d .given) l false)
-      (λ g. once-more (Exit l m) never s r (second-exit (sym (h .holds .given l) ∙ g)))
+      (λ g. once-more (Exit l m) never s r (second-exit (has-exit l before (sym (h .holds .given l) ∙ g))))
       (λ g. let new : hasExit l before ≡ false = sym (h .holds .given l) ∙ g in goes-in (Exit l m) never s r (first new) (withExit d l m) (held-exit before d h l m s i new)))
       (λ e. no-range (Exit l m) never s (λ r. clash (exit-fit (d .locations) l m (exit-range-is l m r)) e))
     where
@@ -138,7 +139,7 @@ module _ (before : List SiteLine) (d : Draft) (h : Held before d) where
       never q = let z : _≡_ {A = ℕ} 0 1 = cc in omega arith
 
       first : hasExit l before ≡ false → Again before (Exit l m) → ⊥
-      first new (second-exit e) = clash e new
+      first new (second-exit x) = clash (exit-has l (x .row)) new
 
   right-range-is : (p l : ℕ) → LineInRange before (Right p l) → RightIn (d .people) (d .locations) p l
   right-range-is p l (right-range a b c) = record { person = rw (h .holds .people) a; inside = b; location = rw (h .holds .locations) c }
@@ -154,7 +155,7 @@ module _ (before : List SiteLine) (d : Draft) (h : Held before d) where
       let b = h .bounded .locations in
       let w : l < mostLocations = omega arith in
       either (Outcome before d (Right p l)) (getD (d .right) (p * mostLocations + l) false)
-      (λ g. once-more (Right p l) never s r (same-right (sym (h .holds .rights p l w) ∙ g)))
+      (λ g. once-more (Right p l) never s r (same-right (right-row p l before (sym (h .holds .rights p l w) ∙ g))))
       (λ g. let new : hasRight p l before ≡ false = sym (h .holds .rights p l w) ∙ g in goes-in (Right p l) never s r (first new) (withRight d p l) (held-right before d h p l s i new)))
       (λ e. no-range (Right p l) never s (λ r. clash (right-fit (d .people) (d .locations) p l (right-range-is p l r)) e))
     where
@@ -162,7 +163,7 @@ module _ (before : List SiteLine) (d : Draft) (h : Held before d) where
       never q = let z : _≡_ {A = ℕ} 0 1 = cc in omega arith
 
       first : hasRight p l before ≡ false → Again before (Right p l) → ⊥
-      first new (same-right e) = clash e new
+      first new (same-right a) = clash (right-has p l a) new
 
   pub outcome : (line : SiteLine) → Outcome before d line (takeLine d line)
   unfolding takeLine

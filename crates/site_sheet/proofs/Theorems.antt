@@ -22,7 +22,8 @@ use Rattle.site_sheet.specs.Gives.{Obeys, Gives, gives-0}
 use Rattle.site_sheet.specs.Accepted.{AcceptedRecord}
 use Rattle.site_sheet.proofs.Verdicts.{site-gives}
 use Rattle.site_sheet.proofs.Same.{same-answer}
-use Rattle.site_sheet.proofs.Only.{gives-site, accepted-obeys, accepted-record, tabled-held}
+use Rattle.site_sheet.proofs.Only.{gives-site, accepted-obeys, accepted-record, tablesOf, fine-held}
+use Rattle.site_sheet.proofs.Obeyed.{lawful-as}
 
 -- Each number is given, with its place, exactly when its line of the table says so.
 pub given-exactly : (most : ℕ) (s : List ℕ) (v : Verdict) → (siteAt most s .verdict ≡ v) ↔ Gives most s v
@@ -32,24 +33,21 @@ given-exactly most s v = ((λ e. subst (Gives most s) e (site-gives most s)), (�
 pub accepted-exactly : (most : ℕ) (s : List ℕ) → (siteAt most s .verdict ≡ Accepted) ↔ Obeys most s
 accepted-exactly most s = ((λ e. accepted-obeys (subst (Gives most s) e (site-gives most s))), (λ o. gives-site (gives-0 o)))
 
-obeys-lawful : {most : ℕ} {s : List ℕ} (o : Obeys most s) → Lawful mostPeople (planIn (o .tables)) (o .tables .right)
-obeys-lawful o = record {
-  in-range = tabled-held (o .rows) .ranged (o .rows .some);
-  leads-out = o .seven;
-  exit-door = o .eight;
-  exit-right = o .nine;
-  first = o .ten;
-}
+obeys-lawful : {most : ℕ} {s : List ℕ} (o : Obeys most s) → Lawful mostPeople (planIn (tablesOf (o .lines))) (tablesOf (o .lines) .right)
+obeys-lawful o =
+    let h = fine-held (o .rows) in
+    let r = h .ranged (o .rows .some) in
+    lawful-as (o .lines) (tablesOf (o .lines)) (o .rows .fine) (h .holds) r (o .six) (o .seven) (o .eight) (o .nine) (o .ten)
 
 -- The record of an accepted sheet holds exactly what its rows say; it is fresh, and it is sound.
 pub accepted-holds : (most : ℕ) (s : List ℕ) → siteAt most s .verdict ≡ Accepted → AcceptedRecord most s
 accepted-holds most s e =
     let o = accepted-exactly most s .0 e in
-    let h = tabled-held (o .rows) in
+    let h = fine-held (o .rows) in
     record {
-      lines = o .rows .lines;
+      lines = o .lines;
       headed = o .rows .headed;
-      tables = o .tables;
+      tables = tablesOf (o .lines);
       holds = h .holds;
       fresh = ap (λ x. x .«record») (accepted-record o);
       sound = subst Sound (sym (ap (λ x. x .«record») (accepted-record o))) (fresh-sound _ _ (obeys-lawful o) (h .zero));

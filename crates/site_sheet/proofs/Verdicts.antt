@@ -12,45 +12,42 @@ use Rattle.tables.specs.declared.Found.{Found}
 use Rattle.tables.specs.declared.Found.the-variants as found
 use Rattle.tables.specs.declared.RightFound.{RightFound}
 use Rattle.tables.specs.declared.RightFound.the-variants as pair
-use Rattle.tables.specs.Below.{Answers}
 use Rattle.tables.specs.Tests.{firstNoExit, firstStray, firstNoDoor, firstNoRight, firstShutOut}
 use Rattle.tables.proofs.Laws.{clash}
-use Rattle.tables.proofs.Answers.{rule-6, rule-7, rule-8, rule-9, rule-10}
 use Rattle.tables.proofs.Cases.{either}
 use Rattle.grammar.specs.declared.cut.RowCut.{RowCut}
 use Rattle.grammar.specs.declared.cut.RowCut.the-variants.{Cut, NoRow, Broken}
 use Rattle.grammar.specs.Cut.{cutRow}
 use Rattle.grammar.specs.Rows.{rowsFrom}
 use Rattle.grammar.proofs.Unique.{row-unique, no-row-at}
-use Rattle.grammar.proofs.Exact.{cut-is-row}
+use Rattle.grammar.proofs.Exact.{cut-is-row, no-row-end, broken-none}
 use Rattle.site_sheet.specs.declared.SiteLine.{SiteLine}
 use Rattle.site_sheet.specs.declared.Draft.{Draft}
 use Rattle.site_sheet.specs.declared.Fault.{Fault}
 use Rattle.site_sheet.specs.declared.Fault.the-variants as fault
-use Rattle.verdict.specs.declared.Verdict.the-variants.{NoExit, Stray, NoDoor, NoRight, ShutOut}
+use Rattle.verdict.specs.declared.Verdict.{Verdict}
 use Rattle.site_sheet.specs.declared.SiteRead.{SiteRead}
 use Rattle.site_sheet.specs.declared.Reading.{Reading}
 use Rattle.site_sheet.specs.Line.{siteHeaderAt}
 use Rattle.site_sheet.specs.Draft.{blankDraft, planIn, takeLine}
-use Rattle.site_sheet.specs.Site.{soundFault, linesIn, readLines, acceptedSite, unlessFound, unlessPair, judged, settled, afterHeader, siteAt}
+use Rattle.site_sheet.specs.Site.{soundFault, linesIn, readLines, refusedSite, unlessFound, unlessPair, judgedBy10, judgedFrom8, judged, settled, afterHeader, siteAt}
 use Rattle.site_sheet.specs.Says.{Fine}
-use Rattle.site_sheet.specs.Gives.{Headed, FineLines, all-fine, one-fine, WrongAt, here, further, draftAfter, Tabled, Six, Seven, Eight, Nine, Gives, gives-0, gives-1, gives-header, gives-row, gives-5, gives-6, gives-7, gives-8, gives-9, gives-10}
-use Rattle.site_sheet.proofs.Held.{Held, Ranged, held-blank}
+use Rattle.site_sheet.specs.Gives.{Headed, FineLines, all-fine, one-fine, WrongAt, here, further, RowsFine, Six, Seven, Eight, Nine, Gives, gives-0, gives-1, gives-header, gives-row, gives-5, gives-6, gives-7, gives-8, gives-9, gives-10}
+use Rattle.site_sheet.proofs.Held.{Held, held-blank}
+use Rattle.site_sheet.proofs.Obeyed.{Ruled, rules-of}
 use Rattle.site_sheet.proofs.Outcome.{Outcome, fine, wrong, outcome, nothing-before, some-before}
 use Rattle.site_sheet.proofs.Rows.{headerFrom, header-same, header-is, is-header-row}
-use Rattle.grammar.proofs.Exact.{no-row-end, broken-none}
 use Rattle.site_sheet.proofs.Text.{text-says}
 
 -- ---- the lines of a sheet, read into the tables
 
 pub data ReadOf (before lines : List SiteLine) (n : ℕ) (d : Draft) (r : Reading) : Type 0 where
-  all : FineLines before lines → r .fault ≡ fault.Sound → r .draft ≡ draftAfter d lines → Held (before ++ lines) (draftAfter d lines) → ReadOf before lines n d r
+  all : FineLines before lines → r .fault ≡ fault.Sound → Held (before ++ lines) (r .draft) → ReadOf before lines n d r
   stopped : (k : ℕ) (f : Fault) → WrongAt before lines k f → r .fault ≡ f → r .row ≡ n + k → soundFault f ≡ false → ReadOf before lines n d r
 
 module _ (before : List SiteLine) (line : SiteLine) (lines : List SiteLine) (n : ℕ) (d : Draft) where
   onward : Fine before line → (r : Reading) → ReadOf (before ++ (line ∷ [])) lines (n + 1) (takeLine d line .draft) r → ReadOf before (line ∷ lines) n d r
-  unfolding draftAfter
-  onward f r (all a s e h) = all (one-fine f a) s e (rw (append-assoc before (line ∷ []) lines) at h)
+  onward f r (all a s h) = all (one-fine f a) s (rw (append-assoc before (line ∷ []) lines) at h)
   onward f r (stopped k g w s e q) = stopped (k + 1) g (further f w) s (e ∙ omega arith) q
 
   read-turn : Outcome before d line (takeLine d line)
@@ -63,8 +60,8 @@ module _ (before : List SiteLine) (line : SiteLine) (lines : List SiteLine) (n :
   read-turn (wrong f w t q) more = stopped 0 f (here w) (rw (t, q)) (rw (t, q) (omega arith)) q
 
 pub read-of : (lines before : List SiteLine) (n : ℕ) (d : Draft) → Held before d → ReadOf before lines n d (readLines d n lines)
-unfolding readLines draftAfter
-read-of [] before n d h = all all-fine refl refl (rw (append-nil before) h)
+unfolding readLines
+read-of [] before n d h = all all-fine refl (rw (append-nil before) h)
 read-of (line ∷ lines) before n d h =
     read-turn before line lines n d (outcome before d h line) (λ k. read-of lines (before ++ (line ∷ [])) (n + 1) (takeLine d line .draft) k)
 
@@ -73,57 +70,53 @@ read-of (line ∷ lines) before n d h =
 abbrev Given : ℕ → List ℕ → SiteRead → Type 0
 Given most s x = Gives most s (x .verdict)
 
-module _ (most : ℕ) (s : List ℕ) (d : Draft) (t : Tabled most s d) (r : Ranged d) where
-  ten : Six d → Seven d → Eight d → Nine d → (x : Found) → firstShutOut (planIn d) (d .right) ≡ x
-      → Given most s (unlessFound x ShutOut (acceptedSite d))
-  ten a b c e (found.At k) q = gives-10 t a b c e (rule-10 (planIn d) (d .right) .at-yes k q)
-  ten a b c e found.Nothing q =
-      gives-0 (record { tables = d; rows = t; six = a; seven = b; eight = c; nine = e; ten = rule-10 (planIn d) (d .right) .none-yes q })
+-- a refusal where a search finds something, and what holds of both
+unless : (P : SiteRead → Type 0) (x : Found) {refusal : ℕ → Verdict} {on : SiteRead} → ((k : ℕ) → x ≡ found.At k → P (refusedSite (refusal k)))
+    → (x ≡ found.Nothing → P on) → P (unlessFound x refusal on)
+unless P (found.At k) f g = f k refl
+unless P found.Nothing f g = g refl
 
-  nine : Six d → Seven d → Eight d → (x : RightFound) → firstNoRight (planIn d) (d .right) ≡ x
-      → Given most s (unlessPair x NoRight (unlessFound (firstShutOut (planIn d) (d .right)) ShutOut (acceptedSite d)))
-  nine a b c (pair.At p l) q = gives-9 t a b c (rule-9 (planIn d) (d .right) .at-yes p l q)
-  nine a b c pair.Nothing q = ten a b c (rule-9 (planIn d) (d .right) .none-yes q) _ refl
+unless-pair : (P : SiteRead → Type 0) (x : RightFound) {refusal : ℕ → ℕ → Verdict} {on : SiteRead} → ((p l : ℕ) → x ≡ pair.At p l → P (refusedSite (refusal p l)))
+    → (x ≡ pair.Nothing → P on) → P (unlessPair x refusal on)
+unless-pair P (pair.At p l) f g = f p l refl
+unless-pair P pair.Nothing f g = g refl
 
-  eight : Six d → Seven d → (x : Found) → firstNoDoor (planIn d) ≡ x
-      → Given most s (unlessFound x NoDoor (unlessPair (firstNoRight (planIn d) (d .right)) NoRight
-      (unlessFound (firstShutOut (planIn d) (d .right)) ShutOut (acceptedSite d))))
-  eight a b (found.At k) q = gives-8 t a b (rule-8 (planIn d) .at-yes k q)
-  eight a b found.Nothing q = nine a b (rule-8 (planIn d) .none-yes q) _ refl
+module _ (most : ℕ) (s : List ℕ) (lines : List SiteLine) (d : Draft) (t : RowsFine most s lines) (h : Held lines d) where
+  ruled : Ruled lines d
+  ruled = rules-of t h
 
-  seven-answers : Answers (firstStray (d .locations) (d .exit)) (Rattle.tables.specs.Way.LeadsOut (d .exit)) (d .locations)
-  seven-answers = let f = r .locations-from in rule-7 (d .locations) (d .exit) (omega arith) (r .locations-to) (r .exits)
+  ten : Six lines → Seven lines → Eight lines → Nine lines → Given most s (judgedBy10 d)
+  ten a b c e =
+      unless (Given most s) (firstShutOut (planIn d) (d .right)) (λ k q. gives-10 t a b c e (ruled .ten .at-yes k q))
+      (λ q. gives-0 (record { lines = lines; rows = t; six = a; seven = b; eight = c; nine = e; ten = ruled .ten .none-yes q }))
 
-  seven : Six d → (x : Found) → firstStray (d .locations) (d .exit) ≡ x
-      → Given most s (unlessFound x Stray (unlessFound (firstNoDoor (planIn d)) NoDoor
-      (unlessPair (firstNoRight (planIn d) (d .right)) NoRight
-      (unlessFound (firstShutOut (planIn d) (d .right)) ShutOut (acceptedSite d)))))
-  seven a (found.At k) q = gives-7 t a (seven-answers .at-yes k q)
-  seven a found.Nothing q = eight a (seven-answers .none-yes q) _ refl
-
-  six : (x : Found) → firstNoExit (d .locations) (d .given) ≡ x
-      → Given most s (unlessFound x NoExit (unlessFound (firstStray (d .locations) (d .exit)) Stray (unlessFound (firstNoDoor (planIn d)) NoDoor
-      (unlessPair (firstNoRight (planIn d) (d .right)) NoRight
-      (unlessFound (firstShutOut (planIn d) (d .right)) ShutOut (acceptedSite d))))))
-  six (found.At k) q = gives-6 t (rule-6 (d .locations) (d .given) .at-yes k q)
-  six found.Nothing q = seven (rule-6 (d .locations) (d .given) .none-yes q) _ refl
+  eight : Six lines → Seven lines → Given most s (judgedFrom8 d)
+  eight a b =
+      unless (Given most s) (firstNoDoor (planIn d)) (λ k q. gives-8 t a b (ruled .eight a .at-yes k q))
+      (λ n. let c = ruled .eight a .none-yes n in
+      unless-pair (Given most s) (firstNoRight (planIn d) (d .right)) (λ p l q. gives-9 t a b c (ruled .nine a .at-yes p l q))
+      (λ q. ten a b c (ruled .nine a .none-yes q)))
 
   judged-gives : Given most s (judged d)
   unfolding judged
-  judged-gives = six (firstNoExit (d .locations) (d .given)) refl
+  judged-gives =
+      unless (Given most s) (firstNoExit (d .locations) (d .given)) (λ k q. gives-6 t (ruled .six .at-yes k q))
+      (λ n. let a = ruled .six .none-yes n in
+      unless (Given most s) (firstStray (d .locations) (d .exit)) (λ k q. gives-7 t a (ruled .seven a .at-yes k q))
+      (λ q. eight a (ruled .seven a .none-yes q)))
 
 -- ---- the whole sheet
 
 settled-gives : (most : ℕ) (s : List ℕ) (lines : List SiteLine) (r : Reading) → Headed most s lines → ReadOf [] lines 1 blankDraft r → Given most s (settled r)
 unfolding settled
-settled-gives most s lines r h (all a f e k) =
-    let d : Draft = draftAfter blankDraft lines in
+settled-gives most s lines r h (all a f k) =
+    let d : Draft = r .draft in
     let q : soundFault (r .fault) ≡ true = rw f in
-    rw (q, e)
+    rw q
     (either (Given most s) (eqb (d .locations) 0)
     (λ z. let n = nothing-before lines d k (eqb-true (d .locations) 0 z) in gives-5 (subst (Headed most s) n h))
     (λ z. let n = some-before lines d k (eqb-false (d .locations) 0 z) in
-    judged-gives most s d (record { lines = lines; headed = h; some = n; fine = a; tables = refl }) (k .ranged n)))
+    judged-gives most s lines d (record { headed = h; some = n; fine = a }) k))
 settled-gives most s lines r h (stopped k f w e n q) =
     let m : 1 + k ≡ k + 1 = omega arith in
     rw (e, q, n, m) (gives-row h w refl)

@@ -1,22 +1,18 @@
--- When a site sheet is accepted, and for each number exactly when it is given, with its place. 01, "Numbers given back". `most` is how
--- many bytes a sheet may have.
+-- When a site sheet is accepted, and for each number exactly when it is given, with its place. 01, "Numbers given back". All of it is
+-- said of the lines that the sheet's rows say. `most` is how many bytes a sheet may have.
 use Prim.Native.Nat.{ℕ, _+_, _≤_, _<_}
 use mathlib.Core.Path.{_≡_}
-use mathlib.Core.Bool.{true, false}
 use mathlib.Core.List.{List, [], _∷_, _++_}
-use lib.ListN.{length, getD}
+use lib.ListN.{length}
 use Rattle.tables.specs.Below.{Smallest, SmallestPair}
-use Rattle.tables.specs.Way.{LeadsOut}
-use Rattle.tables.specs.Rules.{FirstLocation, ExitDoor, ExitRight}
 use Rattle.grammar.specs.Grammar.{Row, RowAt}
 use Rattle.site_sheet.specs.declared.SiteLine.{SiteLine}
-use Rattle.site_sheet.specs.declared.Draft.{Draft}
+use Rattle.site_sheet.specs.declared.SiteLine.the-variants.{Door, Exit, Right}
 use Rattle.site_sheet.specs.declared.Fault.{Fault}
 use Rattle.verdict.specs.declared.Verdict.{Verdict}
 use Rattle.verdict.specs.declared.Verdict.the-variants.{Accepted, TooLong, BadRow, NoSite, NoExit, Stray, NoDoor, NoRight, ShutOut}
-use Rattle.site_sheet.specs.Draft.{blankDraft, planIn, takeLine}
 use Rattle.site_sheet.specs.Site.{verdictOf}
-use Rattle.site_sheet.specs.Says.{SiteHeaderRow, TextSaysLines, Fine, Wrong}
+use Rattle.site_sheet.specs.Says.{SiteHeaderRow, TextSaysLines, Among, HasExit, peopleIn, locationsIn, Fine, Wrong}
 
 -- the sheet is short enough, begins with its header, and its further rows say these lines
 pub record Headed (most : ℕ) (s : List ℕ) (lines : List SiteLine) : Type 0 where
@@ -38,44 +34,67 @@ pub data WrongAt : List SiteLine → List SiteLine → ℕ → Fault → Type 0 
   further : {before : List SiteLine} {line : SiteLine} {lines : List SiteLine} {k : ℕ} {f : Fault} → Fine before line
       → WrongAt (before ++ (line ∷ [])) lines k f → WrongAt before (line ∷ lines) (k + 1) f
 
--- the tables that lines make; `Holds` says what they hold
-unfoldable pub draftAfter : Draft → List SiteLine → Draft
-draftAfter d [] = d
-draftAfter d (line ∷ lines) = draftAfter (takeLine d line .draft) lines
-
--- every row of the sheet is right, and these are its tables
-pub record Tabled (most : ℕ) (s : List ℕ) (d : Draft) : Type 0 where
-  pub lines : List SiteLine
+-- every row of the sheet is right, and these are its lines
+pub record RowsFine (most : ℕ) (s : List ℕ) (lines : List SiteLine) : Type 0 where
   pub headed : Headed most s lines
   pub some : lines ≡ [] → ⊥
   pub fine : FineLines [] lines
-  pub tables : d ≡ draftAfter blankDraft lines
 
--- the rules of the whole sheet, each asked once those before it hold
-abbrev pub Six : Draft → Type 0
-Six d = (l : ℕ) → l < d .locations → 1 ≤ l → getD (d .given) l false ≡ true
+-- ---- the rules of the whole sheet, said of its lines alone
 
-abbrev pub Seven : Draft → Type 0
-Seven d = (l : ℕ) → l < d .locations → LeadsOut (d .exit) l
+-- 6: "every location but 0 has an exit"
+abbrev pub ExitOf : List SiteLine → ℕ → Type 0
+ExitOf lines l = 1 ≤ l → HasExit lines l
 
-abbrev pub Eight : Draft → Type 0
-Eight d = (l : ℕ) → l < d .locations → ExitDoor (planIn d) l
+-- 7: "following exits always comes to 0"
+pub data ComesOut (lines : List SiteLine) : ℕ → Type 0 where
+  outside : ComesOut lines 0
+  onward : {l m : ℕ} → Among (Exit l m) lines → ComesOut lines m → ComesOut lines l
 
-abbrev pub Nine : Draft → Type 0
-Nine d = (p : ℕ) → p < d .people → (l : ℕ) → l < d .locations → ExitRight (planIn d) (d .right) p l
+-- 8: "each exit l to m has a door from l to m"
+abbrev pub ExitHasDoor : List SiteLine → ℕ → Type 0
+ExitHasDoor lines l = (m : ℕ) → Among (Exit l m) lines → Among (Door l m) lines
 
-abbrev pub Ten : Draft → Type 0
-Ten d = (p : ℕ) → p < d .people → FirstLocation (planIn d) (d .right) p
+-- `right,p,l`: "person p may be in l. Location 0 is everybody's and has no row."
+pub data MayBeIn (lines : List SiteLine) (p : ℕ) : ℕ → Type 0 where
+  everybodys : MayBeIn lines p 0
+  by-row : {l : ℕ} → Among (Right p l) lines → MayBeIn lines p l
+
+-- 9: "whoever has a right to l has a right to its exit"
+abbrev pub RightToExit : List SiteLine → ℕ → ℕ → Type 0
+RightToExit lines p l = (m : ℕ) → Among (Right p l) lines → Among (Exit l m) lines → MayBeIn lines p m
+
+-- 10: "everyone has a right to some location with a door from 0"
+pub record ComesIn (lines : List SiteLine) (p : ℕ) : Type 0 where
+  pub location : ℕ
+  pub right : Among (Right p location) lines
+  pub door : Among (Door 0 location) lines
+
+-- each rule of all locations, of all people
+abbrev pub Six : List SiteLine → Type 0
+Six lines = (l : ℕ) → l < locationsIn lines → ExitOf lines l
+
+abbrev pub Seven : List SiteLine → Type 0
+Seven lines = (l : ℕ) → l < locationsIn lines → ComesOut lines l
+
+abbrev pub Eight : List SiteLine → Type 0
+Eight lines = (l : ℕ) → l < locationsIn lines → ExitHasDoor lines l
+
+abbrev pub Nine : List SiteLine → Type 0
+Nine lines = (p : ℕ) → p < peopleIn lines → (l : ℕ) → l < locationsIn lines → RightToExit lines p l
+
+abbrev pub Ten : List SiteLine → Type 0
+Ten lines = (p : ℕ) → p < peopleIn lines → ComesIn lines p
 
 -- a site sheet obeys the written rules
 pub record Obeys (most : ℕ) (s : List ℕ) : Type 0 where
-  pub tables : Draft
-  pub rows : Tabled most s tables
-  pub six : Six tables
-  pub seven : Seven tables
-  pub eight : Eight tables
-  pub nine : Nine tables
-  pub ten : Ten tables
+  pub lines : List SiteLine
+  pub rows : RowsFine most s lines
+  pub six : Six lines
+  pub seven : Seven lines
+  pub eight : Eight lines
+  pub nine : Nine lines
+  pub ten : Ten lines
 
 -- what is said of a sheet
 pub data Gives (most : ℕ) (s : List ℕ) : Verdict → Type 0 where
@@ -89,11 +108,12 @@ pub data Gives (most : ℕ) (s : List ℕ) : Verdict → Type 0 where
   gives-row : {lines : List SiteLine} {k : ℕ} {f : Fault} {v : Verdict} → Headed most s lines → WrongAt [] lines k f → v ≡ verdictOf f (k + 1) → Gives most s v
   -- 5: "a header alone is 5"
   gives-5 : Headed most s [] → Gives most s NoSite
-  -- 6 to 10: "smallest such"
-  gives-6 : {d : Draft} {k : ℕ} → Tabled most s d → Smallest (λ l. 1 ≤ l → getD (d .given) l false ≡ true) (d .locations) k → Gives most s (NoExit k)
-  gives-7 : {d : Draft} {k : ℕ} → Tabled most s d → Six d → Smallest (LeadsOut (d .exit)) (d .locations) k → Gives most s (Stray k)
-  gives-8 : {d : Draft} {k : ℕ} → Tabled most s d → Six d → Seven d
-      → Smallest (ExitDoor (planIn d)) (d .locations) k → Gives most s (NoDoor k)
-  gives-9 : {d : Draft} {p l : ℕ} → Tabled most s d → Six d → Seven d → Eight d → SmallestPair (ExitRight (planIn d) (d .right)) (d .people) (d .locations) p l → Gives most s (NoRight p l)
-  gives-10 : {d : Draft} {k : ℕ} → Tabled most s d → Six d → Seven d → Eight d → Nine d
-      → Smallest (FirstLocation (planIn d) (d .right)) (d .people) k → Gives most s (ShutOut k)
+  -- 6 to 10: "each finished before the next", "smallest such"
+  gives-6 : {lines : List SiteLine} {k : ℕ} → RowsFine most s lines → Smallest (ExitOf lines) (locationsIn lines) k → Gives most s (NoExit k)
+  gives-7 : {lines : List SiteLine} {k : ℕ} → RowsFine most s lines → Six lines → Smallest (ComesOut lines) (locationsIn lines) k → Gives most s (Stray k)
+  gives-8 : {lines : List SiteLine} {k : ℕ} → RowsFine most s lines → Six lines → Seven lines
+      → Smallest (ExitHasDoor lines) (locationsIn lines) k → Gives most s (NoDoor k)
+  gives-9 : {lines : List SiteLine} {p l : ℕ} → RowsFine most s lines → Six lines → Seven lines → Eight lines
+      → SmallestPair (RightToExit lines) (peopleIn lines) (locationsIn lines) p l → Gives most s (NoRight p l)
+  gives-10 : {lines : List SiteLine} {k : ℕ} → RowsFine most s lines → Six lines → Seven lines → Eight lines → Nine lines
+      → Smallest (ComesIn lines) (peopleIn lines) k → Gives most s (ShutOut k)

@@ -1,7 +1,7 @@
 -- What a site sheet says: which line each of its rows is, and what a list of lines says of the site. 01, "Site sheet".
 use Prim.Native.Nat.{ℕ, _+_, _*_, _≤_, _<_}
 use mathlib.Core.Path.{_≡_}
-use mathlib.Core.Bool.{Bool, true, false, cond}
+use mathlib.Core.Bool.{Bool, false, cond}
 use mathlib.Core.List.{List, [], _∷_, map}
 use lib.ListN.{length, getD}
 use lib.Dec.{eqb}
@@ -58,6 +58,16 @@ pub data TextSaysLines : List ℕ → List SiteLine → Type 0 where
   no-row-there : {text : List ℕ} → (text ≡ [] → ⊥) → ((r : Row) (rest : List ℕ) → RowAt text r rest → ⊥) → TextSaysLines text (Bad ∷ [])
 
 -- ---- what lines say of the site
+
+-- a line is one of these
+pub data Among (line : SiteLine) : List SiteLine → Type 0 where
+  first : {lines : List SiteLine} → Among line (line ∷ lines)
+  behind : {other : SiteLine} {lines : List SiteLine} → Among line lines → Among line (other ∷ lines)
+
+-- `exit,l,m`: a line gives an exit of location l
+pub record HasExit (lines : List SiteLine) (l : ℕ) : Type 0 where
+  pub to : ℕ
+  pub row : Among (Exit l to) lines
 
 -- `site,P,L`: "First data row"
 abbrev pub peopleIn : List SiteLine → ℕ
@@ -152,8 +162,8 @@ pub data LineInRange (before : List SiteLine) : SiteLine → Type 0 where
 -- 4: "second `site`, second exit of a location, same right again"
 pub data Again (before : List SiteLine) : SiteLine → Type 0 where
   second-site : {p l : ℕ} → (before ≡ [] → ⊥) → Again before (Site p l)
-  second-exit : {l m : ℕ} → hasExit l before ≡ true → Again before (Exit l m)
-  same-right : {p l : ℕ} → hasRight p l before ≡ true → Again before (Right p l)
+  second-exit : {l m : ℕ} → HasExit before l → Again before (Exit l m)
+  same-right : {p l : ℕ} → Among (Right p l) before → Again before (Right p l)
 
 -- 5: "first data row is absent or not `site`"
 pub data NotFirst : SiteLine → Type 0 where
