@@ -10,6 +10,7 @@ Inv-loop list i₀ i = Unit {0}
 
 abbrev μ-loop : tie.MeasureT-loop
 μ-loop list i₀ i = length list - i
+
 loop-holds : tie.Need-loop-holds Inv-loop μ-loop
 loop-holds c = tt
 
