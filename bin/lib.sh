@@ -1,10 +1,19 @@
-# What bin/panel and bin/where share: `run_in NAME [FOLDER]` runs the proved program NAME in a folder.
+# What the commands of bin/ share. A command defines `help`, which says what it reads and prints, and ends with
+# `command_on_folder PROGRAM "$@"`, which runs the proved program on the two sheets of a folder.
+#
+# The program says on standard error what went wrong and has no exit status of its own; the command ends with status 1 if the
+# program said anything. Status 2 is for what keeps the program from being run at all.
 # shellcheck shell=sh
 
 root=$(dirname "$(dirname "$(readlink -f "$0")")")
+status=0
+
+say() {
+    printf '%s: %s\n' "${0##*/}" "$*" >&2
+}
 
 fail() {
-    printf '%s: %s\n' "${0##*/}" "$*" >&2
+    say "$*"
     exit 2
 }
 
@@ -12,30 +21,141 @@ need_kit() {
     command -v rt >/dev/null || fail "the Rattle kit's command rt is not on the PATH"
 }
 
-# Proves and builds a program, once: rt leaves it in target/bin. What rt says goes to standard error.
-build() { # NAME
-    need_kit
-    (cd "$root" && rt check "$1") >&2 || fail "rt check $1 built no proved program"
+# ---- Building
+
+# The crates that a program is built from, itself among them, one to a line.
+crates_of() { # PROGRAM
+    awk -v wanted="$1" '
+        function visit(name, on, n, i) {
+            if (!(name in below) || name in seen) return
+            seen[name] = 1
+            print name
+            n = split(below[name], on, " ")
+            for (i = 1; i <= n; i++) visit(on[i])
+        }
+        { sub(/#.*/, "") }
+        /:/ { split($0, half, ":"); gsub(/[ \t]/, "", half[1]); below[half[1]] = half[2] }
+        END { visit(wanted) }' "$root/crates.txt"
 }
 
+# Whether rt has proved, built and run a program: its stamp says so.
+is_proved() { # PROGRAM
+    [ -x "$root/target/bin/$1" ] && [ -f "$root/target/stamp/$1" ]
+}
+
+# The same, and none of its sources is newer.
+is_built() { # PROGRAM CRATES
+    is_proved "$1" || return 1
+    newer=$(
+        for crate in $2; do
+            find "$root/crates.txt" "$root/crates/$crate" -newer "$root/target/bin/$1" -print
+        done
+    )
+    [ -z "$newer" ]
+}
+
+# Says of each crate that it is proved and how many are left; the whole of what rt says goes to a log.
+progress() { # LOG LEFT
+    left=$2
+    while IFS= read -r line; do
+        printf '%s\n' "$line" >>"$1"
+        crate=${line#rt: }
+        case $line in
+        'rt: '*' NOT PROVED'*) say "$crate" ;;
+        'rt: '*' proved ('*)
+            left=$((left - 1))
+            say "${crate%% *} is proved, $left left"
+            ;;
+        esac
+    done
+}
+
+# Proves and builds a program, which rt leaves in target/bin; it counts as old as the moment when that began.
+build() { # PROGRAM CRATES
+    need_kit
+    log=$root/target/log/$1.build
+    { mkdir -p "$root/target/log" && : >"$log" && : >"$log.begun"; } || fail "nothing can be built in $root/target"
+    count=$(printf '%s\n' "$2" | wc -l)
+    say "the program $1 is proved and built anew, from $((count)) crates; what rt says is in $log"
+    (cd "$root" && rt check "$1" 2>&1) | progress "$log" "$count"
+    is_proved "$1" || fail "there is no proved program $1; $log says why"
+    touch -r "$log.begun" "$root/target/bin/$1"
+}
+
+# ---- Running
+
 # Programs are for x86-64; on another processor the kit has an emulator beside its compiler.
-run() { # NAME
+need_processor() {
     machine=$(uname -m)
-    if [ "$machine" = x86_64 ]; then exec "$root/target/bin/$1"; fi
+    [ "$machine" != x86_64 ] || return 0
     need_kit
     tools=${RATTLE_HOME:-$(dirname "$(dirname "$(readlink -f "$(command -v rt)")")")}/on/$machine/toolchain
     [ -x "$tools/bin/qemu-x86_64" ] || fail "the Rattle kit has no emulator for this processor, $machine"
-    exec "$tools/bin/qemu-x86_64" "$tools/lib/ld-linux-x86-64.so.2" --library-path "$tools/lib" "$root/target/bin/$1"
 }
 
-run_in() { # NAME [FOLDER]
-    [ $# -le 2 ] || fail "at most one folder, not $(($# - 1))"
+run() { # PROGRAM SITE STEPS
+    program=$root/target/bin/$1
+    shift
+    case $machine in
+    x86_64) "$program" "$@" ;;
+    *) "$tools/bin/qemu-x86_64" "$tools/lib/ld-linux-x86-64.so.2" --library-path "$tools/lib" "$program" "$@" ;;
+    esac
+}
+
+# Whether the program may open a sheet. Opening a FIFO waits for somebody who writes to it; so whatever stands in a file's place and
+# is none is named here, and the program is given an empty file for it.
+may_open() { # FILE
+    [ ! -e "$1" ] || [ -f "$1" ] && return
+    say "$1: Not a regular file"
+    status=1
+    return 1
+}
+
+# Runs a program on the two sheets of the current folder. What it says on standard error comes behind what it prints.
+run_on_sheets() { # PROGRAM
+    site=site.csv steps=steps.csv
+    may_open "$site" || site=/dev/null
+    may_open "$steps" || steps=/dev/null
+    { said=$(run "$1" "$site" "$steps" 2>&1 >&3) || said="$said${said:+
+}the program $1 ended with status $?"; } 3>&1
+    [ -n "$said" ] || return 0
+    printf '%s\n' "$said" | while IFS= read -r line; do say "$line"; done
+    status=1
+}
+
+command_on_folder() { # PROGRAM [FOLDER]
+    case ${2-} in -h | --help)
+        help
+        exit
+        ;;
+    esac
+    [ $# -le 2 ] || fail "at most one folder, not $(($# - 1)); --help says more"
     folder=${2-.}
     case $folder in
     /*) cd "$folder" ;;
     ?*) cd "./$folder" ;;
     *) false ;;
     esac 2>/dev/null || fail "there is no folder '$folder' to go into"
-    [ -x "$root/target/bin/$1" ] || build "$1"
-    run "$1"
+    (: 3>&1) 2>/dev/null || fail "standard output is closed"
+    need_processor
+    trap '' PIPE # a write to a pipe that nobody reads fails, and is told as any other
+    crates=$(crates_of "$1")
+    is_built "$1" "$crates" || build "$1" "$crates"
+    run_on_sheets "$1"
+    exit "$status"
+}
+
+# What is said of all commands by --help.
+help_for_all() {
+    cat <<'EOF'
+
+A sheet that isn't there or can't be read counts as empty and is named on standard error.
+docs/SHEETS.md says how to type a sheet and what the numbers mean.
+
+The program is proved and built by the Rattle kit the first time, and whenever one of its
+sources is newer; standard error then has a line for each crate.
+
+Status: 0 all went well; 1 a sheet couldn't be read or the text couldn't be written, and
+standard error says which; 2 the program wasn't run, and standard error says why.
+EOF
 }

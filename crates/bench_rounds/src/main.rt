@@ -1,12 +1,11 @@
-// `rounds`: does what `panel` does, as many times over as its argument says (once without one), and writes the last text.
+// `bench_rounds`: does what `panel` does, as many times over as its argument says (once without one), and writes the last text.
 // bench/run times it.
-use libc::STDOUT_FILENO;
 use run::texts::panel_text;
-use run_text::blank::MOST_PANEL_TEXT;
 use run_text::blank::blank_panel_text;
 use sheet_files::blank_sheet;
 use sheet_files::number_asked;
 use sheet_files::read_sheet;
+use sheet_files::write_text;
 use text::printed::Printed;
 
 // The same text again and again into the same list; the last one's length, 0 for no round.
@@ -39,7 +38,5 @@ fn main() {
         &steps[..in_steps],
         &mut out,
     );
-    if length <= MOST_PANEL_TEXT {
-        io::write_all(STDOUT_FILENO, &out[0..length]);
-    }
+    write_text(&out, length);
 }

@@ -1,4 +1,5 @@
-// What the programs take from outside: sheets from files, and a number from the command line.
+// What the programs take from outside, sheets from files and a number from the command line, and the text that they write. What
+// goes wrong is said on standard error.
 ghost use Prim.Native.Nat.{_+_};
 ghost use mathlib.Core.Path.{_≡_};
 ghost use lib.ListN.{replicate};
@@ -20,17 +21,60 @@ pub fn blank_sheet() -> [u8; ROOM]
     [0; ROOM]
 }
 
-// Puts a file's bytes at the start of a list and tells how many; a file that can't be read counts as empty.
+// Whether a file has come to its end: a read finds nothing, and doesn't fail.
+fn at_end(file: i32) -> bool {
+    let mut next = [0u8; 1];
+    libc::read(file, &mut next) == 0
+}
+
+// Puts an open file's bytes at the start of a list and tells how many. What was read is all of the file, or as much as there is room
+// for, or else it doesn't count: half a sheet can be a good sheet.
+fn read_whole<'a>(file: i32, name: &'a [u8], sheet: &'a mut [u8]) -> usize
+    ensures { λ r. ⌜ Counts r (now (sheet .exit)) ⌝ }
+{
+    let read = io::read_full(file, sheet);
+    if read == sheet.len() || at_end(file) {
+        return read;
+    }
+    os::fail(name);
+    0
+}
+
+// Puts a file's bytes at the start of a list and tells how many. A file that can't be opened or read counts as empty, and is named
+// on standard error.
 pub fn read_sheet<'a>(name: &'a [u8], sheet: &'a mut [u8]) -> usize
     ensures { λ r. ⌜ Counts r (now (sheet .exit)) ⌝ }
 {
     let file = os::open_read(name);
     if file < 0 {
+        os::fail(name);
         return 0;
     }
-    let read = io::read_full(file, sheet);
+    let read = read_whole(file, name, sheet);
     libc::close(file);
     read
+}
+
+// The same of the file that the program's argument at a place names, or of another without such an argument.
+pub fn read_asked<'a>(place: usize, otherwise: &'a [u8], sheet: &'a mut [u8]) -> usize
+    ensures { λ r. ⌜ Counts r (now (sheet .exit)) ⌝ }
+{
+    let mut name = io::buffer();
+    let length = os::arg(place, &mut name);
+    if os::errno() == libc::EINVAL {
+        return read_sheet(otherwise, sheet);
+    }
+    read_sheet(&name[..length], sheet)
+}
+
+// Writes the text that stands at the front of a list; where a write fails, that is said on standard error.
+pub fn write_text(list: &[u8], length: usize) {
+    if list.len() < length {
+        return;
+    }
+    if !io::write_all(libc::STDOUT_FILENO, &list[0..length]) {
+        os::fail(b"standard output");
+    }
 }
 
 // The number that the program's argument says, or what is to be taken without one.
