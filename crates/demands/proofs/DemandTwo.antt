@@ -16,6 +16,7 @@ use Rattle.tables.specs.Rules.{SafeWay}
 use Rattle.tables.specs.Way.{Way, wayOf, ifRoom, wayToldIn, wayWrittenIn}
 use Rattle.tables.proofs.WayOut.{the-way}
 use Rattle.door.specs.declared.Door.{Door}
+use Rattle.door.specs.Door.{door}
 use Rattle.record.specs.declared.record.Record.{Record}
 use Rattle.phases.specs.declared.table.Kind.{Kind}
 use Rattle.phases.specs.declared.table.Kind.the-variants.{Card, Decide, Green, Red, Walk, Tick, Passed, Lapsed, Dark, Ack, Unknown}
@@ -30,6 +31,7 @@ use Rattle.door.specs.declared.does.Does.{Does}
 use Rattle.door.specs.Does.{burns, effect}
 use Rattle.record.specs.Steps.{reasonFor, Admitted, act, doing, stepOf, exist}
 use Rattle.record.specs.Run.{lastOf}
+use Rattle.record.specs.Lights.{NoGreenNoWalk, NoRed}
 use Rattle.record.specs.Questions.{wayAnswerOf, wayWritten}
 use Rattle.tables.proofs.Cases.{either}
 use Rattle.record.proofs.Ask.{place-is-location, way-out-safe, way-out-short}
@@ -46,7 +48,7 @@ use Rattle.chapter.proofs.Theorems.{fresh-reads, starts-each, step-acts, step-f
 use Rattle.chapter.specs.M4 as m4
 use Rattle.chapter.specs.Reading.{constantsOf, stateOf}
 use Rattle.chapter.specs.Panel.{StartOfEach}
-use Rattle.demands.specs.DemandTwo.{WayOutside, StepIsEvent, Light, Decided, SameTables, NothingToAlter, no-light, green-whole, red-whole, GreenCounts, RedCounts}
+use Rattle.demands.specs.DemandTwo.{WayOutside, StepIsEvent, Light, Decided, SameTables, NothingToAlter, no-light, green-whole, red-whole, CountsDown}
 use Rattle.demands.proofs.DemandOne.{of-record}
 use Rattle.card_by_card.proofs.Serial.{step-done}
 
@@ -258,30 +260,31 @@ alters r sh s k d p e =
 
 -- ---- countdowns
 
--- what the order for a light leaves, from which the light burns
+-- the order for a light sets its countdown
 module _ (r : Record) (sh : Shaped r) (s : Sound r) (d p : ℕ) where
-  pub green-counts : stepOf r Green d p .answer ≡ Done → GreenCounts r d (stepOf r Green d p)
+  pub green-ordered : stepOf r Green d p .answer ≡ Done → doorOf (stepOf r Green d p .next) d ≡ door green (getD (r .holder) d 0) greenSpan
   unfolding effect
-  green-counts e =
-      let next = stepOf r Green d p .next in
-      let sh′ = shaped-stays r Green d p sh in
-      let s′ = sound-stays r Green d p sh s in
-      let there = door-stays r Green d p e in
-      let now = door-after r Green d p sh s e in
+  green-ordered e = door-after r Green d p sh s e
+
+  pub red-ordered : stepOf r Red d p .answer ≡ Done → doorOf (stepOf r Red d p .next) d ≡ door red (getD (r .holder) d 0) redSpan
+  unfolding effect
+  red-ordered e = door-after r Red d p sh s e
+
+-- and a light that burns counts it down
+module _ (r : Record) (sh : Shaped r) (s : Sound r) (d : ℕ) (there : d < r .doors) where
+  in-phase : (ph : ℕ) → getD (r .phase) d 0 ≡ ph → doorOf r d ≡ door ph (getD (r .holder) d 0) (getD (r .count) d 0)
+  in-phase ph is = ap (λ (x : ℕ). door x (getD (r .holder) d 0) (getD (r .count) d 0)) is
+
+  pub green-counts : getD (r .phase) d 0 ≡ green → CountsDown r d (NoGreenNoWalk d) green expired
+  green-counts is =
       record {
-        burns = λ rows quiet few. green-burns next d (getD (r .holder) d 0) greenSpan rows sh′ s′ there now quiet few;
-        ends = λ rows quiet last q. green-expires next d (getD (r .holder) d 0) greenSpan q rows sh′ s′ there now quiet last;
+        burns = λ rows quiet few. green-burns r d (getD (r .holder) d 0) (getD (r .count) d 0) rows sh s there (in-phase green is) quiet few;
+        ends = λ rows quiet last q. green-expires r d (getD (r .holder) d 0) (getD (r .count) d 0) q rows sh s there (in-phase green is) quiet last;
       }
 
-  pub red-counts : stepOf r Red d p .answer ≡ Done → RedCounts r d (stepOf r Red d p)
-  unfolding effect
-  red-counts e =
-      let next = stepOf r Red d p .next in
-      let sh′ = shaped-stays r Red d p sh in
-      let s′ = sound-stays r Red d p sh s in
-      let there = door-stays r Red d p e in
-      let now = door-after r Red d p sh s e in
+  pub red-counts : getD (r .phase) d 0 ≡ red → CountsDown r d (NoRed d) red dimmed
+  red-counts is =
       record {
-        burns = λ rows quiet few. red-burns next d (getD (r .holder) d 0) redSpan rows sh′ s′ there now quiet few;
-        ends = λ rows quiet last q. red-dims next d (getD (r .holder) d 0) redSpan q rows sh′ s′ there now quiet last;
+        burns = λ rows quiet few. red-burns r d (getD (r .holder) d 0) (getD (r .count) d 0) rows sh s there (in-phase red is) quiet few;
+        ends = λ rows quiet last q. red-dims r d (getD (r .holder) d 0) (getD (r .count) d 0) q rows sh s there (in-phase red is) quiet last;
       }

@@ -110,20 +110,13 @@ pub data NothingToAlter (r : Record) (d : ℕ) : Kind → Type 0 where
   red-whole : getD (r .phase) d 0 ≡ red → getD (r .count) d 0 ≡ redSpan → NothingToAlter r d Red
 
 -- "A green door that gets neither another `green` nor a `walk` is expired after exactly as many of its own ticks as its countdown
--- says": s is what the order for a light answered at door d. The countdown is the span less the door's ticks since, whatever happens
--- at other doors, and with the last of them the light is out; the person whom the door holds stays
-pub record CountsDown (r : Record) (d : ℕ) (s : Step) (Quiet : StepRow → Type 0) (burning out span : ℕ) : Type 0 where
-  pub burns : (rows : List StepRow) → Each Quiet rows → ticks d rows < span
-      → doorOf (lastOf (s .next) rows) d ≡ door burning (getD (r .holder) d 0) (span - ticks d rows)
-  pub ends : (rows : List StepRow) → Each Quiet rows → ticks d rows + 1 ≡ span
-      → (p : ℕ) → doorOf (stepOf (lastOf (s .next) rows) Tick d p .next) d ≡ door out (getD (r .holder) d 0) 0
-
--- "`green`: .. countdown 300. `red`: .. countdown 20."
-abbrev pub GreenCounts : Record → ℕ → Step → Type 0
-GreenCounts r d s = CountsDown r d s (NoGreenNoWalk d) green expired greenSpan
-
-abbrev pub RedCounts : Record → ℕ → Step → Type 0
-RedCounts r d s = CountsDown r d s (NoRed d) red dimmed redSpan
+-- says": a light burns at door d of r. Through steps that are so, whatever they do at other doors, it burns while the door's ticks are
+-- fewer than its countdown, which is less by just those; with the tick that makes them as many it is out. The door's person stays
+pub record CountsDown (r : Record) (d : ℕ) (Quiet : StepRow → Type 0) (burning out : ℕ) : Type 0 where
+  pub burns : (rows : List StepRow) → Each Quiet rows → ticks d rows < getD (r .count) d 0
+      → doorOf (lastOf r rows) d ≡ door burning (getD (r .holder) d 0) (getD (r .count) d 0 - ticks d rows)
+  pub ends : (rows : List StepRow) → Each Quiet rows → ticks d rows + 1 ≡ getD (r .count) d 0
+      → (p : ℕ) → doorOf (stepOf (lastOf r rows) Tick d p .next) d ≡ door out (getD (r .holder) d 0) 0
 
 -- ---- all of it
 
@@ -163,6 +156,13 @@ pub record DemandTwo : Type 1 where
   -- "one whose steps alter nothing": a step that acts alters the record, but for those that have nothing to alter
   pub alters : (r : Record) → Shaped r → Sound r → (k : Kind) (d p : ℕ) → stepOf r k d p .answer ≡ Done
       → (stepOf r k d p .next ≡ r) ↔ NothingToAlter r d k
-  -- "and one whose countdown isn't the span less its ticks"
-  pub green-counts : (r : Record) → Shaped r → Sound r → (d p : ℕ) → stepOf r Green d p .answer ≡ Done → GreenCounts r d (stepOf r Green d p)
-  pub red-counts : (r : Record) → Shaped r → Sound r → (d p : ℕ) → stepOf r Red d p .answer ≡ Done → RedCounts r d (stepOf r Red d p)
+  -- "and one whose countdown isn't the span less its ticks": "`green`: .. countdown 300. `red`: .. countdown 20.",
+  pub green-ordered : (r : Record) → Shaped r → Sound r → (d p : ℕ) → stepOf r Green d p .answer ≡ Done
+      → doorOf (stepOf r Green d p .next) d ≡ door green (getD (r .holder) d 0) greenSpan
+  pub red-ordered : (r : Record) → Shaped r → Sound r → (d p : ℕ) → stepOf r Red d p .answer ≡ Done
+      → doorOf (stepOf r Red d p .next) d ≡ door red (getD (r .holder) d 0) redSpan
+  -- and from any countdown on, a light burns for just so many ticks
+  pub green-counts : (r : Record) → Shaped r → Sound r → (d : ℕ) → d < r .doors → getD (r .phase) d 0 ≡ green
+      → CountsDown r d (NoGreenNoWalk d) green expired
+  pub red-counts : (r : Record) → Shaped r → Sound r → (d : ℕ) → d < r .doors → getD (r .phase) d 0 ≡ red
+      → CountsDown r d (NoRed d) red dimmed
