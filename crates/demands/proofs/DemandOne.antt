@@ -2,13 +2,14 @@
 use Prim.Native.Nat.{ℕ, zero, suc, _+_, _-_, _≤_, _<_}
 use mathlib.Core.Path.{_≡_, refl, sym, ap, _∙_}
 use mathlib.Core.Bool.{Bool, true, false, not, cond, false≢true}
-use mathlib.Core.List.{List, [], _∷_}
+use mathlib.Core.List.{List, [], _∷_, map}
 use mathlib.Core.Logic.{_⊎_, inl, inr, ⊎-elim}
 use native.Mathlib.Nat.{add-sub-of-le}
 use native.Mathlib.Omega.{arith}
 use borrow.Author.Tests.{eqb-true, ne-eqb, le-ltb, ltb-true, ltb-false, lt-ltb, le-leb, lt-leb, leb-true}
 use denote.Ref.{now}
 use lib.ListN.{length, getD, drop, length-drop, length-append}
+use lib.Seq.{sets}
 use lib.Dec.{eqb, ltb, leb}
 use Rattle.grammar.specs.declared.cut.Cell.{Cell}
 use Rattle.grammar.specs.declared.cut.Cells.{Cells}
@@ -43,19 +44,21 @@ use Rattle.phases.specs.declared.table.Kind.{Kind}
 use Rattle.phases.specs.declared.table.Kind.the-variants.{Card, Decide, Green, Red, Walk, Tick, Passed, Lapsed, Dark, Ack, Unknown}
 use Rattle.door.specs.declared.Door.{Door}
 use Rattle.phases.specs.declared.answer.Answer.{Answer}
-use Rattle.phases.specs.declared.answer.Answer.the-variants.{NoSuch, NotAllowed, Unsound}
+use Rattle.phases.specs.declared.answer.Answer.the-variants.{Done, NoSuch, NotAllowed, Unsound}
 use Rattle.phases.specs.Answers.{grantTold, grantNo, answerNo}
 use Rattle.phases.specs.Phase.{green, denied, red}
 use Rattle.record.specs.Doors.{doorOf, Shaped}
 use Rattle.granting.specs.Grants.{grantOf}
-use Rattle.phases.specs.Kinds.{kindOf, allows, namesPerson}
+use Rattle.phases.specs.Kinds.{StepRow, kindOf, allows, namesPerson}
 use Rattle.soundness.specs.SoundTest.{listsSound}
 use Rattle.record.specs.SoundTest.{soundB}
 use Rattle.door.specs.declared.does.Does.{Does}
 use Rattle.door.specs.declared.does.Does.the-variants.{Stays, Turns, Moves}
 use Rattle.door.specs.Does.{effect}
 use Rattle.record.specs.Steps.{reasonFor, act, refused, doing, exist, soundStep, stepOf}
-use Rattle.record.specs.Run.{roomFor, roomIn, ranOf, tellingOf}
+use Rattle.record.specs.declared.steps.Told.{Told}
+use Rattle.record.specs.Deeds.{telling}
+use Rattle.record.specs.Run.{Reply, lastOf, repliesOf, answerTold, phaseTold, reasonTold, rowsOf, roomFor, roomIn, ranOf, runOf, tellingOf}
 use Rattle.record.specs.Questions.{placeOf, grantFound, grantedTo, wayAnswerOf, wayWritten}
 use Rattle.tables.proofs.Cases.{either}
 use Rattle.record.proofs.Keep.{put-same}
@@ -75,6 +78,7 @@ use Rattle.site_sheet.specs.Site as site
 use Rattle.site_sheet.proofs.Theorems.{given-exactly}
 use Rattle.demands.specs.DemandOne.{Within, Lies, FieldTold, RowTold, CountTold, SheetAnswers, WayTells, RulesAnswers}
 use Rattle.demands.specs.Telling.{NumberBy}
+use Rattle.demands.specs.Lending.{Lent, LentRows, none, one, replyIn, LentIsSteps, LentIsRun}
 use Rattle.demands.specs.DemandOne.{Exists, stepOrder, StepTells, Room, RunTells, PlaceTells, GrantTells, WayOutTells, RecordAnswers, SiteTells, SiteAnswers}
 
 -- ---- crate `sheet`
@@ -369,6 +373,32 @@ module _ (r : Record) (steps doors persons answers phases reasons : List ℕ) wh
             ran = λ e. apart (λ z. omega arith) (rw s at e);
           }
 
+-- the one record that is lent
+lent-tells : (r : Record) (k : Kind) (d p : ℕ) (exit : Record) (told : Told) → Lent r k d p exit told → StepTells r k d p (telling exit told)
+lent-tells r k d p exit told w = rw (w .next, w .tells) (step-tells r k d p)
+
+lent-steps : {r last : Record} {rows : List StepRow} {told : List Told} → LentRows r rows last told → LentIsSteps r rows last told
+unfolding lastOf repliesOf
+lent-steps none = record { same-record = refl; same-told = refl }
+lent-steps (one {row} {rows} w more) =
+    let on = lent-steps more in
+    let first = ap replyIn (w .tells) in
+    let others = on .same-told ∙ ap (λ (x : Record). repliesOf x rows) (w .next) in
+    record { same-record = on .same-record ∙ ap (λ (x : Record). lastOf x rows) (w .next); same-told = λ i. first i ∷ others i }
+
+module _ (r : Record) (steps doors persons answers phases reasons : List ℕ) where
+  lent-run : runOf r steps doors persons answers phases reasons .answer ≡ Done → (last : Record) (told : List Told)
+      → LentRows r (rowsOf steps doors persons) last told → LentIsRun r steps doors persons answers phases reasons last told
+  lent-run done last told w =
+      let ran = run-tells r steps doors persons answers phases reasons .ran done in
+      let is = lent-steps w in
+      record {
+        same-record = ran .0 ∙ sym (is .same-record);
+        same-answers = ran .1 ∙ ap (λ (l : List Reply). sets answers 0 (map answerTold l)) (sym (is .same-told));
+        same-phases = ran .2 ∙ ap (λ (l : List Reply). sets phases 0 (map phaseTold l)) (sym (is .same-told));
+        same-reasons = ran .3 ∙ ap (λ (l : List Reply). sets reasons 0 (map reasonTold l)) (sym (is .same-told));
+      }
+
 -- the questions: 14, then 11
 module _ (r : Record) (p : ℕ) where
   place-tells : PlaceTells r p
@@ -461,7 +491,9 @@ of-record =
       fresh = fresh-sound;
       step = step-tells;
       step-numbered = λ r n d p. step-tells r (kindOf n) d p;
-      step-lent = step-tells;
+      step-lent = lent-tells;
+      lent-steps = λ r rows last told w. lent-steps w;
+      lent-run = lent-run;
       card = λ r d p. step-tells r Card d p;
       decide = λ r d. step-tells r Decide d 0;
       green = λ r d. step-tells r Green d 0;

@@ -44,6 +44,7 @@ use Rattle.phases.specs.declared.table.Kind.the-variants.{Card, Decide, Green, 
 use Rattle.phases.specs.declared.answer.Answer.{Answer}
 use Rattle.phases.specs.declared.answer.Answer.the-variants.{Done, NoSuch, NotAllowed, Unsound}
 use Rattle.record.specs.declared.steps.Step.{Step}
+use Rattle.record.specs.declared.steps.Told.{Told}
 use Rattle.phases.specs.Answers.{lengthTold, wayNo, grantTold, grantNo, placeTold, placeNo, answerNo}
 use Rattle.door.specs.declared.Door.{Door}
 use Rattle.door.specs.declared.does.Does.{Does}
@@ -56,11 +57,12 @@ use Rattle.record.specs.Doors.{freshRecord, Shaped}
 use Rattle.granting.specs.Grants.{GrantAt, grantOf}
 use Rattle.granting.specs.Reasons.{firstReason}
 use Rattle.soundness.specs.SoundTest.{listsSound}
-use Rattle.phases.specs.Kinds.{kindOf, numberOfKind, allows, namesPerson}
+use Rattle.phases.specs.Kinds.{StepRow, kindOf, numberOfKind, allows, namesPerson}
 use Rattle.phases.specs.Table.{asked}
 use Rattle.record.specs.Sound.{ZeroBeyond, Sound}
 use Rattle.record.specs.SoundTest.{soundB}
 use Rattle.record.specs.Steps.{stepOf}
+use Rattle.record.specs.Deeds.{telling}
 use Rattle.record.specs.Run.{rowsOf, lastOf, repliesOf, answerTold, phaseTold, reasonTold, runOf, answersOf, phasesOf, reasonsOf}
 use Rattle.record.specs.Questions.{placeOf, grantedTo, wayAnswerOf, wayWritten}
 use Rattle.verdict.specs.declared.Verdict.{Verdict}
@@ -75,6 +77,7 @@ use Rattle.steps_sheet.specs.Lent.{mostIn, kindsIn, doorsIn, personsIn, decoded
 use Rattle.run_text.specs.Printed.{panelText, whereText, mostPanelText, mostWhereText}
 use Rattle.demands.specs.Telling.{Order, done, _unless_then_, NumberBy, OneOf}
 use Rattle.demands.specs.Answered.{EnumAnswers}
+use Rattle.demands.specs.Lending.{Lent, LentRows, LentIsSteps, LentIsRun}
 
 -- ---- crate `sheet`
 
@@ -296,8 +299,13 @@ pub record RecordAnswers : Type 0 where
   pub fresh : (site : Plan) (right : List Bool) → Lawful mostPeople site right → ZeroBeyond site right → Sound (freshRecord site right)
   pub step : (r : Record) (k : Kind) (d p : ℕ) → StepTells r k d p (stepOf r k d p)
   pub step-numbered : (r : Record) (n d p : ℕ) → StepTells r (kindOf n) d p (stepOf r (kindOf n) d p)
-  -- the record that is lent holds the next record at exit, so what is said of a step is said of it
-  pub step-lent : (r : Record) (k : Kind) (d p : ℕ) → StepTells r k d p (stepOf r k d p)
+  -- "finds it altered, or as it was after a refusal": what is said of a step is said of the record that is lent and of what is told;
+  pub step-lent : (r : Record) (k : Kind) (d p : ℕ) (exit : Record) (told : Told) → Lent r k d p exit told → StepTells r k d p (telling exit told)
+  -- lent for one step after the other, it goes through the records of these steps, and those of a run
+  pub lent-steps : (r : Record) (rows : List StepRow) (last : Record) (told : List Told) → LentRows r rows last told → LentIsSteps r rows last told
+  pub lent-run : (r : Record) (steps doors persons answers phases reasons : List ℕ) → runOf r steps doors persons answers phases reasons .answer ≡ Done
+      → (last : Record) (told : List Told) → LentRows r (rowsOf steps doors persons) last told
+      → LentIsRun r steps doors persons answers phases reasons last told
   pub card : (r : Record) (d p : ℕ) → StepTells r Card d p (stepOf r Card d p)
   pub decide : (r : Record) (d : ℕ) → StepTells r Decide d 0 (stepOf r Decide d 0)
   pub green : (r : Record) (d : ℕ) → StepTells r Green d 0 (stepOf r Green d 0)
