@@ -45,7 +45,7 @@ use Rattle.phases.specs.declared.table.Kind.the-variants.{Card, Decide, Green, 
 use Rattle.door.specs.declared.Door.{Door}
 use Rattle.phases.specs.declared.answer.Answer.{Answer}
 use Rattle.phases.specs.declared.answer.Answer.the-variants.{Done, NoSuch, NotAllowed, Unsound}
-use Rattle.phases.specs.Answers.{grantTold, grantNo, answerNo}
+use Rattle.phases.specs.Answers.{lengthTold, wayNo, grantTold, grantNo, placeTold, placeNo, answerNo}
 use Rattle.phases.specs.Phase.{green, denied, red}
 use Rattle.record.specs.Doors.{doorOf, Shaped}
 use Rattle.granting.specs.Grants.{grantOf}
@@ -59,11 +59,12 @@ use Rattle.record.specs.Steps.{reasonFor, act, refused, doing, exist, soundStep
 use Rattle.record.specs.declared.steps.Told.{Told}
 use Rattle.record.specs.Deeds.{telling}
 use Rattle.record.specs.Run.{Reply, lastOf, repliesOf, answerTold, phaseTold, reasonTold, rowsOf, roomFor, roomIn, ranOf, runOf, tellingOf}
-use Rattle.record.specs.Questions.{placeOf, grantFound, grantedTo, wayAnswerOf, wayWritten}
+use Rattle.record.specs.Questions.{askedNo, unlessRefused, placeOf, grantFound, grantedTo, wayAnswerOf, wayWritten, wayAskedNo}
 use Rattle.tables.proofs.Cases.{either}
 use Rattle.record.proofs.Keep.{put-same}
 use Rattle.record.proofs.Fresh.{fresh-sound}
 use Rattle.record.proofs.Tells.{sound-tells}
+use Rattle.record.proofs.Asked.{place-as-said, grant-as-said, way-as-said}
 use Rattle.record.proofs.Laws.{act-done}
 use Rattle.verdict.specs.declared.Verdict.{Verdict}
 use Rattle.verdict.specs.declared.Verdict.the-variants.{Accepted, TooLong, BadRow, OutOfRange, Twice, NoSite, NoExit, Stray, NoDoor, NoRight, ShutOut}
@@ -401,21 +402,29 @@ module _ (r : Record) (steps doors persons answers phases reasons : List ℕ) wh
 
 -- the questions: 14, then 11
 module _ (r : Record) (p : ℕ) where
+  place-said : (placeNo (placeOf r p) ≡ askedNo r (ltb p (r .people))) × (placeTold (placeOf r p) ≡ unlessRefused (placeNo (placeOf r p)) (getD (r .place) p 0) 0)
+  place-said = place-as-said r p (placeOf r p) refl .1
+
   place-tells : PlaceTells r p
   unfolding placeOf
   place-tells = go (soundB r) refl (ltb p (r .people)) refl
     where
       go : (s : Bool) → soundB r ≡ s → (b : Bool) → ltb p (r .people) ≡ b → PlaceTells r p
       go true s true b =
-          record { number = inr (s, inr (ltb-true p (r .people) b, rw (s, b))); location = λ _. rw (s, b); refused = λ some. absurd (some (rw (s, b))) }
+          record { number = inr (s, inr (ltb-true p (r .people) b, rw (s, b))); location = λ _. rw (s, b); refused = λ some. absurd (some (rw (s, b))); as-promised = place-said }
       go true s false b =
           record {
             number = inr (s, inl ((λ h. clash (lt-ltb p (r .people) h) b), rw (s, b)));
             location = λ e. absurd (eleven (rw (s, b) at e));
             refused = λ _. rw (s, b);
+            as-promised = place-said;
           }
       go false s b _ =
-          record { number = inl ((λ t. clash t s), rw s); location = λ e. absurd (fourteen (rw s at e)); refused = λ _. rw s }
+          record { number = inl ((λ t. clash t s), rw s); location = λ e. absurd (fourteen (rw s at e)); refused = λ _. rw s; as-promised = place-said }
+
+  grant-said : (grantNo (grantedTo r p) ≡ askedNo r (ltb p (r .people)))
+      × (grantTold (grantedTo r p) ≡ unlessRefused (grantNo (grantedTo r p)) (grantOf (r .doors) (r .phase) (r .holder) p) Nothing)
+  grant-said = grant-as-said r p (grantedTo r p) refl .1
 
   grant-tells : GrantTells r p
   unfolding grantedTo
@@ -432,19 +441,24 @@ module _ (r : Record) (p : ℕ) where
             number = inr (s, inr (ltb-true p (r .people) b, rw (s, b) (f .0)));
             a-door = λ _. rw (s, b) (f .1);
             refused = λ some. absurd (some (rw (s, b) (f .0)));
+            as-promised = grant-said;
           }
       go true s false b =
           record {
             number = inr (s, inl ((λ h. clash (lt-ltb p (r .people) h) b), rw (s, b)));
             a-door = λ e. absurd (eleven (rw (s, b) at e));
             refused = λ _. rw (s, b);
+            as-promised = grant-said;
           }
       go false s b _ =
-          record { number = inl ((λ t. clash t s), rw s); a-door = λ e. absurd (fourteen (rw s at e)); refused = λ _. rw s }
+          record { number = inl ((λ t. clash t s), rw s); a-door = λ e. absurd (fourteen (rw s at e)); refused = λ _. rw s; as-promised = grant-said }
 
 module _ (r : Record) (l : ℕ) (list : List ℕ) where
   abbrev way : List ℕ
   way = wayOf (r .locations) (r .exit) l
+
+  way-said : (wayNo (wayAnswerOf r l list) ≡ wayAskedNo r l list) × (lengthTold (wayAnswerOf r l list) ≡ unlessRefused (wayNo (wayAnswerOf r l list)) (length way) 0)
+  way-said = let said = way-as-said r l list (wayWritten r l list) (wayAnswerOf r l list) refl refl .1 in (said .0, said .1 .0)
 
   way-out-tells : WayOutTells r l list
   unfolding wayAnswerOf wayWritten wayToldIn wayWrittenIn ifRoom
@@ -458,6 +472,7 @@ module _ (r : Record) (l : ℕ) (list : List ℕ) where
             in-front = λ _. rw (s, b, q);
             refused = λ some. absurd (some (rw (s, b, q)));
             unaltered = λ some. absurd (some (rw (s, b, q)));
+            as-promised = way-said;
           }
       go true s true b false q =
           record {
@@ -466,6 +481,7 @@ module _ (r : Record) (l : ℕ) (list : List ℕ) where
             in-front = λ e. absurd (thirteen (rw (s, b, q) at e));
             refused = λ _. rw (s, b, q);
             unaltered = λ _. rw (s, b, q);
+            as-promised = way-said;
           }
       go true s false b q _ =
           record {
@@ -474,6 +490,7 @@ module _ (r : Record) (l : ℕ) (list : List ℕ) where
             in-front = λ e. absurd (eleven (rw (s, b) at e));
             refused = λ _. rw (s, b);
             unaltered = λ _. rw (s, b);
+            as-promised = way-said;
           }
       go false s b _ q _ =
           record {
@@ -482,6 +499,7 @@ module _ (r : Record) (l : ℕ) (list : List ℕ) where
             in-front = λ e. absurd (fourteen (rw s at e));
             refused = λ _. rw s;
             unaltered = λ _. rw s;
+            as-promised = way-said;
           }
 
 pub of-record : RecordAnswers
