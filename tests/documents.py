@@ -1,4 +1,5 @@
-"""Holds the documents to the crates: each public function has its promise and two wrong answers, each name exists.
+"""Holds the documents and the demands to the crates: each public function has its promise, two wrong answers and its fields in the
+demands, each name exists.
 
 Run it at the project's root (tests/run does). It reads text alone and proves nothing.
 """
@@ -7,7 +8,32 @@ import re
 import sys
 
 FUNCTION = re.compile(r"^\s*(?:#\[[^\]]*\]\s*)?pub\s+(?:extern\s+\"C\"\s+)?fn\s+([a-z_0-9]+)", re.M)
+BODY = re.compile(r"^\s*[{}]$", re.M)
+TOKEN = re.compile(r"[^\s(){}\[\];,⌜⌝]+")
 OWNER = re.compile(r"^impl(?:<[^>]*>)?\s+([A-Za-z_0-9]+)", re.M)
+
+# The parts of demand 1 and of the uniqueness of answers (`SheetAnswers`, `SheetUnique`, ..) in which a crate's functions have their fields.
+PARTS = {
+    "sheet": ["Sheet"],
+    "text": ["Text"],
+    "tables": ["Tables", "Enum"],
+    "rules": ["Rules"],
+    "phases": ["Door", "Enum"],
+    "door": ["Door"],
+    "granting": ["Sound"],
+    "soundness": ["Sound"],
+    "record": ["Record"],
+    "verdict": ["Site"],
+    "site": ["Site"],
+    "steps": ["Steps"],
+    "run_text": ["Run"],
+    "run": ["Run"],
+    "sheet_files": ["Run"],
+}
+# What these tell comes from outside, so that they have no field (docs/DEMANDS.md).
+OUTSIDE = {"read_sheet", "number_asked"}
+# What is said of every plan is said of each that `plan` puts together from its parts.
+PUT_TOGETHER = {"plan": "Plan"}
 
 faults = []
 
@@ -38,8 +64,8 @@ def block_end(text, at):
     return len(text)
 
 
-def public_functions(crate):
-    """The public functions of a library, methods with the name of their type in front."""
+def functions(crate):
+    """The public functions of a library, methods with the name of their type in front: the name, the head up to the body, and the file."""
     folder = os.path.join("crates", crate, "src")
     if not os.path.exists(os.path.join(folder, "lib.rt")):
         return
@@ -48,7 +74,12 @@ def public_functions(crate):
         owners = [(m.start(), block_end(text, m.end()), m.group(1)) for m in OWNER.finditer(text)]
         for m in FUNCTION.finditer(text):
             owner = [o + "::" for a, b, o in owners if a <= m.start() < b]
-            yield "".join(owner) + m.group(1)
+            body = BODY.search(text, m.end())
+            yield "".join(owner) + m.group(1), text[m.start() : body.start() if body else len(text)], text
+
+
+def public_functions(crate):
+    return (name for name, _, _ in functions(crate))
 
 
 def rows(page, crate):
@@ -102,6 +133,72 @@ def check_promises(listed):
             faults.append(f"docs/PROMISES.md does not name the must-fail edit {crate}/{edit}")
 
 
+def statements():
+    """The definitions of crates/demands/specs by name, and the fields of those that are records."""
+    bodies, fields = {}, {}
+    folder = os.path.join("crates", "demands", "specs")
+    for name in sorted(os.listdir(folder)):
+        text = re.sub(r"^\s*--.*\n", "", read(folder, name), flags=re.M)
+        for block in re.split(r"^(?=\S)", text, flags=re.M):
+            head = re.match(r"(?:(?:abbrev|unfoldable) pub (?=\S+ :)|pub (?:record|data) )?([^\s:]+)", block)
+            if not head or block.startswith(("use ", "pub mod ")):
+                continue
+            bodies[head.group(1)] = bodies.get(head.group(1), "") + block
+            if block.startswith("pub record "):
+                parts = re.split(r"^  pub (\S+) :", block, flags=re.M)
+                fields[head.group(1)] = dict(zip(parts[1::2], parts[2::2]))
+    return bodies, fields
+
+
+def cited(text, bodies):
+    """The names in a statement, and in those of crates/demands/specs that it cites."""
+    names, left = set(), [text]
+    while left:
+        for name in TOKEN.findall(left.pop()):
+            name = name.split(".")[-1]
+            if name not in names:
+                names.add(name)
+                left.append(bodies.get(name, ""))
+    return names
+
+
+def promised_by(head, text):
+    """The definitions and the cases of an enum that the `ensures` of a function cite."""
+    known = set()
+    for module, names in re.findall(r"^ghost use ((?:Rattle·|lib\.)\S+?)\.\{([^}]*)\};", text, re.M):
+        if ".declared." not in module:
+            known |= {name.strip() for name in names.split(",")}
+    parameters = set(re.findall(r"(\w+):", head.split("ensures")[0]))
+    promise = " ".join(re.findall(r"ensures[^⌜]*⌜(.*?)⌝", head, re.S))
+    return set(TOKEN.findall(promise)) & known - parameters | set(re.findall(r"\b[A-Z]\w*\.([A-Z]\w*)", promise))
+
+
+def field_name(name):
+    return re.sub(r"(?<=[a-z])(?=[A-Z])", "-", name).replace("::", "-").replace("_", "-").lower()
+
+
+def check_fields(listed):
+    """Each public function has its field in demand 1 and in the uniqueness of answers, which cites what its promise cites."""
+    bodies, fields = statements()
+    for crate in listed:
+        for name, head, text in functions(crate):
+            if name in OUTSIDE:
+                continue
+            if "ensures" not in head:
+                faults.append(f"{crate}::{name} has no promise")
+            for kind in ("Answers", "Unique"):
+                parts = [fields[part + kind] for part in PARTS.get(crate, [])]
+                names = [field_name(name), field_name(name.split("::")[-1])]
+                found = [part[field] for field in names for part in parts if field in part]
+                if not found:
+                    faults.append(f"crates/demands/specs has no field for {crate}::{name} ({kind})")
+                    continue
+                said = cited(found[0], bodies)
+                for lost in sorted(promised_by(head, text) - said):
+                    if PUT_TOGETHER.get(lost) not in said:
+                        faults.append(f"the field of {crate}::{name} ({kind}) does not cite {lost}, which the promise does")
+
+
 def check_map(listed):
     readme = read("README.md")
     for crate in listed:
@@ -148,6 +245,7 @@ def main():
     listed = crates()
     check_edits(listed)
     check_promises(listed)
+    check_fields(listed)
     check_map(listed)
     check_paths()
     check_rules()

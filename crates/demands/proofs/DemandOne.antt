@@ -2,13 +2,14 @@
 use Prim.Native.Nat.{ℕ, zero, suc, _+_, _-_, _≤_, _<_}
 use mathlib.Core.Path.{_≡_, refl, sym, ap, _∙_}
 use mathlib.Core.Bool.{Bool, true, false, not, cond, false≢true}
-use mathlib.Core.List.{List, [], _∷_}
+use mathlib.Core.List.{List, [], _∷_, map}
 use mathlib.Core.Logic.{_⊎_, inl, inr, ⊎-elim}
 use native.Mathlib.Nat.{add-sub-of-le}
 use native.Mathlib.Omega.{arith}
 use borrow.Author.Tests.{eqb-true, ne-eqb, le-ltb, ltb-true, ltb-false, lt-ltb, le-leb, lt-leb, leb-true}
 use denote.Ref.{now}
 use lib.ListN.{length, getD, drop, length-drop, length-append}
+use lib.Seq.{sets}
 use lib.Dec.{eqb, ltb, leb}
 use Rattle.grammar.specs.declared.cut.Cell.{Cell}
 use Rattle.grammar.specs.declared.cut.Cells.{Cells}
@@ -43,24 +44,27 @@ use Rattle.phases.specs.declared.table.Kind.{Kind}
 use Rattle.phases.specs.declared.table.Kind.the-variants.{Card, Decide, Green, Red, Walk, Tick, Passed, Lapsed, Dark, Ack, Unknown}
 use Rattle.door.specs.declared.Door.{Door}
 use Rattle.phases.specs.declared.answer.Answer.{Answer}
-use Rattle.phases.specs.declared.answer.Answer.the-variants.{NoSuch, NotAllowed, Unsound}
-use Rattle.phases.specs.Answers.{grantTold, grantNo, answerNo}
+use Rattle.phases.specs.declared.answer.Answer.the-variants.{Done, NoSuch, NotAllowed, Unsound}
+use Rattle.phases.specs.Answers.{lengthTold, wayNo, grantTold, grantNo, placeTold, placeNo, answerNo}
 use Rattle.phases.specs.Phase.{green, denied, red}
 use Rattle.record.specs.Doors.{doorOf, Shaped}
 use Rattle.granting.specs.Grants.{grantOf}
-use Rattle.phases.specs.Kinds.{kindOf, allows, namesPerson}
+use Rattle.phases.specs.Kinds.{StepRow, kindOf, allows, namesPerson}
 use Rattle.soundness.specs.SoundTest.{listsSound}
 use Rattle.record.specs.SoundTest.{soundB}
 use Rattle.door.specs.declared.does.Does.{Does}
 use Rattle.door.specs.declared.does.Does.the-variants.{Stays, Turns, Moves}
 use Rattle.door.specs.Does.{effect}
 use Rattle.record.specs.Steps.{reasonFor, act, refused, doing, exist, soundStep, stepOf}
-use Rattle.record.specs.Run.{roomFor, roomIn, ranOf, tellingOf}
-use Rattle.record.specs.Questions.{placeOf, grantFound, grantedTo, wayAnswerOf, wayWritten}
+use Rattle.record.specs.declared.steps.Told.{Told}
+use Rattle.record.specs.Deeds.{telling}
+use Rattle.record.specs.Run.{Reply, lastOf, repliesOf, answerTold, phaseTold, reasonTold, rowsOf, roomFor, roomIn, ranOf, runOf, tellingOf}
+use Rattle.record.specs.Questions.{askedNo, unlessRefused, placeOf, grantFound, grantedTo, wayAnswerOf, wayWritten, wayAskedNo}
 use Rattle.tables.proofs.Cases.{either}
 use Rattle.record.proofs.Keep.{put-same}
 use Rattle.record.proofs.Fresh.{fresh-sound}
 use Rattle.record.proofs.Tells.{sound-tells}
+use Rattle.record.proofs.Asked.{place-as-said, grant-as-said, way-as-said}
 use Rattle.record.proofs.Laws.{act-done}
 use Rattle.verdict.specs.declared.Verdict.{Verdict}
 use Rattle.verdict.specs.declared.Verdict.the-variants.{Accepted, TooLong, BadRow, OutOfRange, Twice, NoSite, NoExit, Stray, NoDoor, NoRight, ShutOut}
@@ -75,6 +79,7 @@ use Rattle.site_sheet.specs.Site as site
 use Rattle.site_sheet.proofs.Theorems.{given-exactly}
 use Rattle.demands.specs.DemandOne.{Within, Lies, FieldTold, RowTold, CountTold, SheetAnswers, WayTells, RulesAnswers}
 use Rattle.demands.specs.Telling.{NumberBy}
+use Rattle.demands.specs.Lending.{Lent, LentRows, none, one, replyIn, LentIsSteps, LentIsRun}
 use Rattle.demands.specs.DemandOne.{Exists, stepOrder, StepTells, Room, RunTells, PlaceTells, GrantTells, WayOutTells, RecordAnswers, SiteTells, SiteAnswers}
 
 -- ---- crate `sheet`
@@ -369,23 +374,57 @@ module _ (r : Record) (steps doors persons answers phases reasons : List ℕ) wh
             ran = λ e. apart (λ z. omega arith) (rw s at e);
           }
 
+-- the one record that is lent
+lent-tells : (r : Record) (k : Kind) (d p : ℕ) (exit : Record) (told : Told) → Lent r k d p exit told → StepTells r k d p (telling exit told)
+lent-tells r k d p exit told w = rw (w .next, w .tells) (step-tells r k d p)
+
+lent-steps : {r last : Record} {rows : List StepRow} {told : List Told} → LentRows r rows last told → LentIsSteps r rows last told
+unfolding lastOf repliesOf
+lent-steps none = record { same-record = refl; same-told = refl }
+lent-steps (one {row} {rows} w more) =
+    let on = lent-steps more in
+    let first = ap replyIn (w .tells) in
+    let others = on .same-told ∙ ap (λ (x : Record). repliesOf x rows) (w .next) in
+    record { same-record = on .same-record ∙ ap (λ (x : Record). lastOf x rows) (w .next); same-told = λ i. first i ∷ others i }
+
+module _ (r : Record) (steps doors persons answers phases reasons : List ℕ) where
+  lent-run : runOf r steps doors persons answers phases reasons .answer ≡ Done → (last : Record) (told : List Told)
+      → LentRows r (rowsOf steps doors persons) last told → LentIsRun r steps doors persons answers phases reasons last told
+  lent-run done last told w =
+      let ran = run-tells r steps doors persons answers phases reasons .ran done in
+      let is = lent-steps w in
+      record {
+        same-record = ran .0 ∙ sym (is .same-record);
+        same-answers = ran .1 ∙ ap (λ (l : List Reply). sets answers 0 (map answerTold l)) (sym (is .same-told));
+        same-phases = ran .2 ∙ ap (λ (l : List Reply). sets phases 0 (map phaseTold l)) (sym (is .same-told));
+        same-reasons = ran .3 ∙ ap (λ (l : List Reply). sets reasons 0 (map reasonTold l)) (sym (is .same-told));
+      }
+
 -- the questions: 14, then 11
 module _ (r : Record) (p : ℕ) where
+  place-said : (placeNo (placeOf r p) ≡ askedNo r (ltb p (r .people))) × (placeTold (placeOf r p) ≡ unlessRefused (placeNo (placeOf r p)) (getD (r .place) p 0) 0)
+  place-said = place-as-said r p (placeOf r p) refl .1
+
   place-tells : PlaceTells r p
   unfolding placeOf
   place-tells = go (soundB r) refl (ltb p (r .people)) refl
     where
       go : (s : Bool) → soundB r ≡ s → (b : Bool) → ltb p (r .people) ≡ b → PlaceTells r p
       go true s true b =
-          record { number = inr (s, inr (ltb-true p (r .people) b, rw (s, b))); location = λ _. rw (s, b); refused = λ some. absurd (some (rw (s, b))) }
+          record { number = inr (s, inr (ltb-true p (r .people) b, rw (s, b))); location = λ _. rw (s, b); refused = λ some. absurd (some (rw (s, b))); as-promised = place-said }
       go true s false b =
           record {
             number = inr (s, inl ((λ h. clash (lt-ltb p (r .people) h) b), rw (s, b)));
             location = λ e. absurd (eleven (rw (s, b) at e));
             refused = λ _. rw (s, b);
+            as-promised = place-said;
           }
       go false s b _ =
-          record { number = inl ((λ t. clash t s), rw s); location = λ e. absurd (fourteen (rw s at e)); refused = λ _. rw s }
+          record { number = inl ((λ t. clash t s), rw s); location = λ e. absurd (fourteen (rw s at e)); refused = λ _. rw s; as-promised = place-said }
+
+  grant-said : (grantNo (grantedTo r p) ≡ askedNo r (ltb p (r .people)))
+      × (grantTold (grantedTo r p) ≡ unlessRefused (grantNo (grantedTo r p)) (grantOf (r .doors) (r .phase) (r .holder) p) Nothing)
+  grant-said = grant-as-said r p (grantedTo r p) refl .1
 
   grant-tells : GrantTells r p
   unfolding grantedTo
@@ -402,19 +441,24 @@ module _ (r : Record) (p : ℕ) where
             number = inr (s, inr (ltb-true p (r .people) b, rw (s, b) (f .0)));
             a-door = λ _. rw (s, b) (f .1);
             refused = λ some. absurd (some (rw (s, b) (f .0)));
+            as-promised = grant-said;
           }
       go true s false b =
           record {
             number = inr (s, inl ((λ h. clash (lt-ltb p (r .people) h) b), rw (s, b)));
             a-door = λ e. absurd (eleven (rw (s, b) at e));
             refused = λ _. rw (s, b);
+            as-promised = grant-said;
           }
       go false s b _ =
-          record { number = inl ((λ t. clash t s), rw s); a-door = λ e. absurd (fourteen (rw s at e)); refused = λ _. rw s }
+          record { number = inl ((λ t. clash t s), rw s); a-door = λ e. absurd (fourteen (rw s at e)); refused = λ _. rw s; as-promised = grant-said }
 
 module _ (r : Record) (l : ℕ) (list : List ℕ) where
   abbrev way : List ℕ
   way = wayOf (r .locations) (r .exit) l
+
+  way-said : (wayNo (wayAnswerOf r l list) ≡ wayAskedNo r l list) × (lengthTold (wayAnswerOf r l list) ≡ unlessRefused (wayNo (wayAnswerOf r l list)) (length way) 0)
+  way-said = let said = way-as-said r l list (wayWritten r l list) (wayAnswerOf r l list) refl refl .1 in (said .0, said .1 .0)
 
   way-out-tells : WayOutTells r l list
   unfolding wayAnswerOf wayWritten wayToldIn wayWrittenIn ifRoom
@@ -428,6 +472,7 @@ module _ (r : Record) (l : ℕ) (list : List ℕ) where
             in-front = λ _. rw (s, b, q);
             refused = λ some. absurd (some (rw (s, b, q)));
             unaltered = λ some. absurd (some (rw (s, b, q)));
+            as-promised = way-said;
           }
       go true s true b false q =
           record {
@@ -436,6 +481,7 @@ module _ (r : Record) (l : ℕ) (list : List ℕ) where
             in-front = λ e. absurd (thirteen (rw (s, b, q) at e));
             refused = λ _. rw (s, b, q);
             unaltered = λ _. rw (s, b, q);
+            as-promised = way-said;
           }
       go true s false b q _ =
           record {
@@ -444,6 +490,7 @@ module _ (r : Record) (l : ℕ) (list : List ℕ) where
             in-front = λ e. absurd (eleven (rw (s, b) at e));
             refused = λ _. rw (s, b);
             unaltered = λ _. rw (s, b);
+            as-promised = way-said;
           }
       go false s b _ q _ =
           record {
@@ -452,6 +499,7 @@ module _ (r : Record) (l : ℕ) (list : List ℕ) where
             in-front = λ e. absurd (fourteen (rw s at e));
             refused = λ _. rw s;
             unaltered = λ _. rw s;
+            as-promised = way-said;
           }
 
 pub of-record : RecordAnswers
@@ -461,7 +509,9 @@ of-record =
       fresh = fresh-sound;
       step = step-tells;
       step-numbered = λ r n d p. step-tells r (kindOf n) d p;
-      step-lent = step-tells;
+      step-lent = lent-tells;
+      lent-steps = λ r rows last told w. lent-steps w;
+      lent-run = lent-run;
       card = λ r d p. step-tells r Card d p;
       decide = λ r d. step-tells r Decide d 0;
       green = λ r d. step-tells r Green d 0;

@@ -2,7 +2,7 @@
 -- say is in `specs/DemandTwo.antt`. Assumes nothing.
 use Prim.Native.Nat.{ℕ, _≤_, _<_}
 use mathlib.Core.Path.{_≡_, refl, sym, ap, subst, _∙_}
-use mathlib.Core.Bool.{true, false, false≢true}
+use mathlib.Core.Bool.{Bool, true, false, false≢true}
 use mathlib.Core.List.{List, _++_}
 use mathlib.Core.Logic.{_↔_}
 use native.Mathlib.Omega.{arith}
@@ -12,9 +12,11 @@ use lib.Seq.{set-getD}
 use lib.Dec.{eqb, ltb}
 use Rattle.tables.specs.Tables.{Plan, orElse, andAlso}
 use Rattle.tables.proofs.Laws.{clash}
-use Rattle.tables.specs.Way.{wayOf, ifRoom, wayToldIn, wayWrittenIn}
+use Rattle.tables.specs.Rules.{SafeWay}
+use Rattle.tables.specs.Way.{Way, wayOf, ifRoom, wayToldIn, wayWrittenIn}
 use Rattle.tables.proofs.WayOut.{the-way}
 use Rattle.door.specs.declared.Door.{Door}
+use Rattle.door.specs.Door.{door}
 use Rattle.record.specs.declared.record.Record.{Record}
 use Rattle.phases.specs.declared.table.Kind.{Kind}
 use Rattle.phases.specs.declared.table.Kind.the-variants.{Card, Decide, Green, Red, Walk, Tick, Passed, Lapsed, Dark, Ack, Unknown}
@@ -22,19 +24,20 @@ use Rattle.phases.specs.declared.answer.Answer.the-variants.{Done}
 use Rattle.record.specs.declared.steps.Step.{Step}
 use Rattle.phases.specs.declared.answer.WayAnswer.the-variants.{Length}
 use Rattle.phases.specs.Phase.{free, read, granted, green, walked, expired, denied, red, dimmed, closed, greenSpan, redSpan}
-use Rattle.record.specs.Doors.{doorOf, putDoor, Shaped}
+use Rattle.record.specs.Doors.{planOf, doorOf, putDoor, Shaped}
 use Rattle.phases.specs.Kinds.{StepRow, allows, namesPerson}
 use Rattle.record.specs.Sound.{Sound}
 use Rattle.door.specs.declared.does.Does.{Does}
 use Rattle.door.specs.Does.{burns, effect}
 use Rattle.record.specs.Steps.{reasonFor, Admitted, act, doing, stepOf, exist}
 use Rattle.record.specs.Run.{lastOf}
+use Rattle.record.specs.Lights.{NoGreenNoWalk, NoRed}
 use Rattle.record.specs.Questions.{wayAnswerOf, wayWritten}
 use Rattle.tables.proofs.Cases.{either}
 use Rattle.record.proofs.Ask.{place-is-location, way-out-safe, way-out-short}
 use Rattle.record.proofs.Right.{admitted}
 use Rattle.record.proofs.Tells.{sound-tells}
-use Rattle.record.proofs.Laws.{done-did, barred-12, act-done, becomes, door-after, sound-stays, shaped-stays, plan-stays, run-sound, run-shaped, run-plan}
+use Rattle.record.proofs.Laws.{done-did, barred-12, act-done, becomes, door-after, sound-stays, shaped-stays, plan-stays, rights-stay, run-sound, run-shaped, run-plan, run-rights}
 use Rattle.record.proofs.Laws.{denied-first, granted-exactly, green-burns, green-expires, red-burns, red-dims}
 use Rattle.verdict.specs.declared.Verdict.the-variants.{Accepted}
 use Rattle.grammar.specs.Sizes.{limit}
@@ -45,7 +48,7 @@ use Rattle.chapter.proofs.Theorems.{fresh-reads, starts-each, step-acts, step-f
 use Rattle.chapter.specs.M4 as m4
 use Rattle.chapter.specs.Reading.{constantsOf, stateOf}
 use Rattle.chapter.specs.Panel.{StartOfEach}
-use Rattle.demands.specs.DemandTwo.{WayOutside, StepIsEvent, Light, Decided, NothingToAlter, no-light, green-whole, red-whole, GreenCounts, RedCounts}
+use Rattle.demands.specs.DemandTwo.{WayOutside, StepIsEvent, Light, Decided, SameTables, NothingToAlter, no-light, green-whole, red-whole, CountsDown}
 use Rattle.demands.proofs.DemandOne.{of-record}
 use Rattle.card_by_card.proofs.Serial.{step-done}
 
@@ -62,7 +65,7 @@ way-told r sh s l h list room =
     let q = le-leb (length (wayOf (r .locations) (r .exit) l)) (length list) room in
     (rw (t, e, q), rw (t, e, q))
 
-pub way-of : (r : Record) → Shaped r → Sound r → (p : ℕ) → p < r .people → WayOutside r p
+pub way-of : (r : Record) → Shaped r → Sound r → (p : ℕ) → p < r .people → WayOutside r r p
 way-of r sh s p h =
     let l = getD (r .place) p 0 in
     let there = place-is-location r s p h in
@@ -75,12 +78,22 @@ way-of r sh s p h =
     }
 
 pub after-steps : (s : List ℕ) → siteOf s .verdict ≡ Accepted → (rows : List StepRow) (p : ℕ) → p < siteOf s .«record» .people
-    → WayOutside (lastOf (siteOf s .«record») rows) p
+    → WayOutside (siteOf s .«record») (lastOf (siteOf s .«record») rows) p
 after-steps s e rows p h =
     let a = accepted-holds limit s e in
     let r = siteOf s .«record» in
-    way-of (lastOf r rows) (run-shaped r rows (a .shaped)) (run-sound r rows (a .shaped) (a .sound)) p
-    (rw (ap (λ (site : Plan). site .people) (run-plan r rows)) h)
+    let last = lastOf r rows in
+    let w = way-of last (run-shaped r rows (a .shaped)) (run-sound r rows (a .shaped) (a .sound)) p (rw (ap (λ (site : Plan). site .people) (run-plan r rows)) h) in
+    let l = getD (last .place) p 0 in
+    record {
+      way = w .way;
+      signed = subst (λ (site : Plan). Way (site .exit) l (w .way)) (run-plan r rows) (w .signed);
+      usable =
+          subst (λ (right : List Bool). SafeWay (planOf r) right p l (w .way)) (run-rights r rows)
+          (subst (λ (site : Plan). SafeWay site (last .right) p l (w .way)) (run-plan r rows) (w .usable));
+      short = w .short;
+      told = w .told;
+    }
 
 -- ---- a step and its event
 
@@ -161,6 +174,13 @@ decided r sh s d p e =
 
 -- ---- what steps alter
 
+-- nothing of the tables
+pub tables-stay : (r : Record) (k : Kind) (d p : ℕ) → SameTables r (stepOf r k d p .next)
+tables-stay r k d p = record { same-plan = plan-stays r k d p; same-rights = rights-stay r k d p }
+
+pub run-tables-stay : (r : Record) (rows : List StepRow) → SameTables r (lastOf r rows)
+run-tables-stay r rows = record { same-plan = run-plan r rows; same-rights = run-rights r rows }
+
 -- a step that leaves its door as it is has nothing to alter
 module _ (r : Record) (d p why : ℕ) where
   abbrev c : Door
@@ -240,30 +260,31 @@ alters r sh s k d p e =
 
 -- ---- countdowns
 
--- what the order for a light leaves, from which the light burns
+-- the order for a light sets its countdown
 module _ (r : Record) (sh : Shaped r) (s : Sound r) (d p : ℕ) where
-  pub green-counts : stepOf r Green d p .answer ≡ Done → GreenCounts r d (stepOf r Green d p)
+  pub green-ordered : stepOf r Green d p .answer ≡ Done → doorOf (stepOf r Green d p .next) d ≡ door green (getD (r .holder) d 0) greenSpan
   unfolding effect
-  green-counts e =
-      let next = stepOf r Green d p .next in
-      let sh′ = shaped-stays r Green d p sh in
-      let s′ = sound-stays r Green d p sh s in
-      let there = door-stays r Green d p e in
-      let now = door-after r Green d p sh s e in
+  green-ordered e = door-after r Green d p sh s e
+
+  pub red-ordered : stepOf r Red d p .answer ≡ Done → doorOf (stepOf r Red d p .next) d ≡ door red (getD (r .holder) d 0) redSpan
+  unfolding effect
+  red-ordered e = door-after r Red d p sh s e
+
+-- and a light that burns counts it down
+module _ (r : Record) (sh : Shaped r) (s : Sound r) (d : ℕ) (there : d < r .doors) where
+  in-phase : (ph : ℕ) → getD (r .phase) d 0 ≡ ph → doorOf r d ≡ door ph (getD (r .holder) d 0) (getD (r .count) d 0)
+  in-phase ph is = ap (λ (x : ℕ). door x (getD (r .holder) d 0) (getD (r .count) d 0)) is
+
+  pub green-counts : getD (r .phase) d 0 ≡ green → CountsDown r d (NoGreenNoWalk d) green expired
+  green-counts is =
       record {
-        burns = λ rows quiet few. green-burns next d (getD (r .holder) d 0) greenSpan rows sh′ s′ there now quiet few;
-        ends = λ rows quiet last q. green-expires next d (getD (r .holder) d 0) greenSpan q rows sh′ s′ there now quiet last;
+        burns = λ rows quiet few. green-burns r d (getD (r .holder) d 0) (getD (r .count) d 0) rows sh s there (in-phase green is) quiet few;
+        ends = λ rows quiet last q. green-expires r d (getD (r .holder) d 0) (getD (r .count) d 0) q rows sh s there (in-phase green is) quiet last;
       }
 
-  pub red-counts : stepOf r Red d p .answer ≡ Done → RedCounts r d (stepOf r Red d p)
-  unfolding effect
-  red-counts e =
-      let next = stepOf r Red d p .next in
-      let sh′ = shaped-stays r Red d p sh in
-      let s′ = sound-stays r Red d p sh s in
-      let there = door-stays r Red d p e in
-      let now = door-after r Red d p sh s e in
+  pub red-counts : getD (r .phase) d 0 ≡ red → CountsDown r d (NoRed d) red dimmed
+  red-counts is =
       record {
-        burns = λ rows quiet few. red-burns next d (getD (r .holder) d 0) redSpan rows sh′ s′ there now quiet few;
-        ends = λ rows quiet last q. red-dims next d (getD (r .holder) d 0) redSpan q rows sh′ s′ there now quiet last;
+        burns = λ rows quiet few. red-burns r d (getD (r .holder) d 0) (getD (r .count) d 0) rows sh s there (in-phase red is) quiet few;
+        ends = λ rows quiet last q. red-dims r d (getD (r .holder) d 0) (getD (r .count) d 0) q rows sh s there (in-phase red is) quiet last;
       }

@@ -26,7 +26,7 @@ use Rattle.demands.proofs.DemandOne.{of-sheet, of-rules, of-record, of-
 use Rattle.demands.proofs.Leaves.{of-tables, of-door, of-sound}
 use Rattle.demands.proofs.StepsSheet.{of-steps}
 use Rattle.demands.proofs.Texts.{of-text, of-run}
-use Rattle.demands.proofs.DemandTwo.{way-of, after-steps, is-event, decided, starts, alters, green-counts, red-counts}
+use Rattle.demands.proofs.DemandTwo.{way-of, after-steps, is-event, decided, starts, tables-stay, run-tables-stay, alters, green-ordered, red-ordered, green-counts, red-counts}
 use Rattle.card_by_card.proofs.DemandThree as three
 use Rattle.card_by_card.proofs.Warden as warden
 use Rattle.demands.proofs.Accepted.{accepted-fresh}
@@ -74,7 +74,11 @@ demand-2 =
       no-door-stuck = no-door-stuck;
       whole-run = cases.whole-run;
       whole-run-places = cases.whole-run-places;
+      tables-stay = tables-stay;
+      run-tables-stay = run-tables-stay;
       alters = alters;
+      green-ordered = green-ordered;
+      red-ordered = red-ordered;
       green-counts = green-counts;
       red-counts = red-counts;
     }

@@ -29,7 +29,7 @@ use Rattle.text.specs.declared.printed.Printed.{Printed}
 use Rattle.text.specs.declared.printed.Printed.the-variants.{Text, TooShort}
 use Rattle.text.specs.Wrote.{Wrote}
 use Rattle.text.specs.Wrote as wrote
-use Rattle.text.specs.Printed.{fitsIn, printedOf, written, printedNo}
+use Rattle.text.specs.Printed.{fitsIn, printedOf, written, Prints, printedNo}
 use Rattle.text.proofs.Writing.{sets-past}
 use Rattle.text.proofs.Decimal.{decimal-some}
 use Rattle.text.proofs.Rows.{row-some}
@@ -42,11 +42,11 @@ use Rattle.demands.specs.Telling.{OneOf}
 use Rattle.demands.proofs.DemandOne.{number-most, of-rules}
 use Rattle.demands.proofs.Fits.{row-short, rows-short, places-short}
 
-text-tells : (text out : List ℕ) → TextTells text out
+defined : (text out : List ℕ) → TextTells text out (printedOf text out) (written text out)
 unfolding printedOf written fitsIn
-text-tells text out = go (leb (length text) (length out)) refl
+defined text out = go (leb (length text) (length out)) refl
   where
-    go : (q : Bool) → leb (length text) (length out) ≡ q → TextTells text out
+    go : (q : Bool) → leb (length text) (length out) ≡ q → TextTells text out (printedOf text out) (written text out)
     go true q =
         let h = leb-true (length text) (length out) q in
         record {
@@ -63,6 +63,9 @@ text-tells text out = go (leb (length text) (length out)) refl
           in-front = λ l. absurd (omega arith);
           unaltered = λ _. rw q;
         }
+
+text-tells : {text out : List ℕ} {told : Printed} {after : List ℕ} → Prints text out told after → TextTells text out told after
+text-tells {text} {out} w = rw (w .answer, w .list) (defined text out)
 
 a-text-number : (p : Printed) → OneOf (0 ∷ 13 ∷ []) (printedNo p)
 a-text-number (Text n) = inl refl
@@ -171,13 +174,13 @@ blank-long : (n : ℕ) → length {A = ℕ} (replicate n 0) ≡ n
 blank-long n = length-replicate {A = ℕ} n 0
 
 in-blank : {most : ℕ} (text : List ℕ) → length text ≤ most → printedOf text (replicate most 0) ≡ Text (length text)
-in-blank {most} text h = let l = blank-long most in text-tells text (replicate most 0) .a-length (omega arith)
+in-blank {most} text h = let l = blank-long most in defined text (replicate most 0) .a-length (omega arith)
 
 pub of-run : RunAnswers
 of-run =
     record {
-      panel-text = λ site steps out. text-tells (panelText site steps) out;
-      where-text = λ site steps out. text-tells (whereText site steps) out;
+      panel-text = λ site steps out told after w. text-tells w;
+      where-text = λ site steps out told after w. text-tells w;
       blank-sheet = λ s h. let l = blank-long (limit + 1) in omega arith;
       panel-fits = panel-fits;
       where-fits = where-fits;

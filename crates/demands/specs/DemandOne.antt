@@ -9,6 +9,7 @@ use mathlib.Core.List.{List, [], _∷_, _++_, map}
 use mathlib.Core.Logic.{_⊎_, _↔_}
 use lib.ListN.{length, getD, set, take, drop, replicate}
 use lib.Seq.{sets}
+use lib.Dec.{ltb}
 use denote.Ref.{RefT, now}
 use Rattle.numbers.specs.Numbers.{doneNo, tooLongNo, noSiteNo, noRightNo, shutOutNo, noSuchNo, notAllowedNo, tooShortNo, unsoundNo}
 use Rattle.sheet.specs.declared.reader.Reader.{Reader}
@@ -29,7 +30,7 @@ use Rattle.text.specs.declared.printed.Printed.{Printed}
 use Rattle.text.specs.declared.printed.Printed.the-variants.{Text}
 use Rattle.text.specs.Text.{decimal, rowOfNumbers}
 use Rattle.text.specs.Wrote.{lastPlace, Wrote}
-use Rattle.text.specs.Printed.{printedOf, written, printedNo}
+use Rattle.text.specs.Printed.{printedOf, Prints, printedNo}
 use Rattle.tables.specs.declared.Found.the-variants.{At, Nothing}
 use Rattle.tables.specs.declared.RightFound.the-variants as pair
 use Rattle.tables.specs.declared.WayTold.the-variants.{Length, TooShort}
@@ -44,6 +45,7 @@ use Rattle.phases.specs.declared.table.Kind.the-variants.{Card, Decide, Green, 
 use Rattle.phases.specs.declared.answer.Answer.{Answer}
 use Rattle.phases.specs.declared.answer.Answer.the-variants.{Done, NoSuch, NotAllowed, Unsound}
 use Rattle.record.specs.declared.steps.Step.{Step}
+use Rattle.record.specs.declared.steps.Told.{Told}
 use Rattle.phases.specs.Answers.{lengthTold, wayNo, grantTold, grantNo, placeTold, placeNo, answerNo}
 use Rattle.door.specs.declared.Door.{Door}
 use Rattle.door.specs.declared.does.Does.{Does}
@@ -56,13 +58,14 @@ use Rattle.record.specs.Doors.{freshRecord, Shaped}
 use Rattle.granting.specs.Grants.{GrantAt, grantOf}
 use Rattle.granting.specs.Reasons.{firstReason}
 use Rattle.soundness.specs.SoundTest.{listsSound}
-use Rattle.phases.specs.Kinds.{kindOf, numberOfKind, allows, namesPerson}
+use Rattle.phases.specs.Kinds.{StepRow, kindOf, numberOfKind, allows, namesPerson}
 use Rattle.phases.specs.Table.{asked}
 use Rattle.record.specs.Sound.{ZeroBeyond, Sound}
 use Rattle.record.specs.SoundTest.{soundB}
 use Rattle.record.specs.Steps.{stepOf}
+use Rattle.record.specs.Deeds.{telling}
 use Rattle.record.specs.Run.{rowsOf, lastOf, repliesOf, answerTold, phaseTold, reasonTold, runOf, answersOf, phasesOf, reasonsOf}
-use Rattle.record.specs.Questions.{placeOf, grantedTo, wayAnswerOf, wayWritten}
+use Rattle.record.specs.Questions.{askedNo, unlessRefused, placeOf, grantedTo, wayAnswerOf, wayWritten, wayAskedNo}
 use Rattle.verdict.specs.declared.Verdict.{Verdict}
 use Rattle.site_sheet.specs.Site.{siteOf, blankRecord, firstPlace, secondPlace}
 use Rattle.grammar.specs.Sizes.{limit, width}
@@ -75,6 +78,7 @@ use Rattle.steps_sheet.specs.Lent.{mostIn, kindsIn, doorsIn, personsIn, decoded
 use Rattle.run_text.specs.Printed.{panelText, whereText, mostPanelText, mostWhereText}
 use Rattle.demands.specs.Telling.{Order, done, _unless_then_, NumberBy, OneOf}
 use Rattle.demands.specs.Answered.{EnumAnswers}
+use Rattle.demands.specs.Lending.{Lent, LentRows, LentIsSteps, LentIsRun}
 
 -- ---- crate `sheet`
 
@@ -131,11 +135,11 @@ pub record TextWritten (list : List ℕ) (at : ℕ) (text after : List ℕ) (nex
   pub behind : at + length text ≤ lastPlace → next ≡ at + length text
 
 -- 13: "list lent .. is shorter"; else the text stands in front, its length told, and the rest is unaltered
-pub record TextTells (text out : List ℕ) : Type 0 where
-  pub number : NumberBy (tooShortNo unless length text ≤ length out then done) (printedNo (printedOf text out))
-  pub a-length : length text ≤ length out → printedOf text out ≡ Text (length text)
-  pub in-front : length text ≤ length out → written text out ≡ text ++ drop (length text) out
-  pub unaltered : length out < length text → written text out ≡ out
+pub record TextTells (text out : List ℕ) (told : Printed) (after : List ℕ) : Type 0 where
+  pub number : NumberBy (tooShortNo unless length text ≤ length out then done) (printedNo told)
+  pub a-length : length text ≤ length out → told ≡ Text (length text)
+  pub in-front : length text ≤ length out → after ≡ text ++ drop (length text) out
+  pub unaltered : length out < length text → after ≡ out
 
 pub record TextAnswers : Type 0 where
   pub put : (list : List ℕ) (at byte : ℕ) (after : List ℕ) (next : ℕ) → Wrote list at (byte ∷ []) after next → TextWritten list at (byte ∷ []) after next
@@ -205,7 +209,7 @@ pub record DoorAnswers : Type 0 where
       → (c .phase ≤ closed) × (keeps (c .phase) ≡ true → c .holder < people) × (c .count ≤ mostCount (c .phase))
   pub does : (k : Kind) (p why : ℕ) (c : Door) → why ≤ 3 → c .phase ≤ closed → DoesTold (effect k p why c)
 
--- ---- crate `sound`
+-- ---- crates `granting` and `soundness`
 
 pub record SoundAnswers : Type 0 where
   -- the door that is told is there and holds a grant of the person
@@ -272,11 +276,16 @@ pub record PlaceTells (r : Record) (p : ℕ) : Type 0 where
   pub number : NumberBy (unsoundNo unless soundB r ≡ true then noSuchNo unless p < r .people then done) (placeNo (placeOf r p))
   pub location : placeNo (placeOf r p) ≡ doneNo → placeTold (placeOf r p) ≡ getD (r .place) p 0
   pub refused : (placeNo (placeOf r p) ≡ doneNo → ⊥) → placeTold (placeOf r p) ≡ 0
+  -- the number and the value that the promise names are those of the answer
+  pub as-promised : (placeNo (placeOf r p) ≡ askedNo r (ltb p (r .people)))
+      × (placeTold (placeOf r p) ≡ unlessRefused (placeNo (placeOf r p)) (getD (r .place) p 0) 0)
 
 pub record GrantTells (r : Record) (p : ℕ) : Type 0 where
   pub number : NumberBy (unsoundNo unless soundB r ≡ true then noSuchNo unless p < r .people then done) (grantNo (grantedTo r p))
   pub a-door : grantNo (grantedTo r p) ≡ doneNo → grantTold (grantedTo r p) ≡ grantOf (r .doors) (r .phase) (r .holder) p
   pub refused : (grantNo (grantedTo r p) ≡ doneNo → ⊥) → grantTold (grantedTo r p) ≡ Nothing
+  pub as-promised : (grantNo (grantedTo r p) ≡ askedNo r (ltb p (r .people)))
+      × (grantTold (grantedTo r p) ≡ unlessRefused (grantNo (grantedTo r p)) (grantOf (r .doors) (r .phase) (r .holder) p) Nothing)
 
 pub record WayOutTells (r : Record) (l : ℕ) (list : List ℕ) : Type 0 where
   pub number : NumberBy
@@ -288,6 +297,8 @@ pub record WayOutTells (r : Record) (l : ℕ) (list : List ℕ) : Type 0 where
       → wayWritten r l list ≡ wayOf (r .locations) (r .exit) l ++ drop (length (wayOf (r .locations) (r .exit) l)) list
   pub refused : (wayNo (wayAnswerOf r l list) ≡ doneNo → ⊥) → lengthTold (wayAnswerOf r l list) ≡ 0
   pub unaltered : (wayNo (wayAnswerOf r l list) ≡ doneNo → ⊥) → wayWritten r l list ≡ list
+  pub as-promised : (wayNo (wayAnswerOf r l list) ≡ wayAskedNo r l list)
+      × (lengthTold (wayAnswerOf r l list) ≡ unlessRefused (wayNo (wayAnswerOf r l list)) (length (wayOf (r .locations) (r .exit) l)) 0)
 
 pub record RecordAnswers : Type 0 where
   -- the test of soundness tells it, of every record whose lists of doors and locations are as long as its arrays
@@ -296,8 +307,13 @@ pub record RecordAnswers : Type 0 where
   pub fresh : (site : Plan) (right : List Bool) → Lawful mostPeople site right → ZeroBeyond site right → Sound (freshRecord site right)
   pub step : (r : Record) (k : Kind) (d p : ℕ) → StepTells r k d p (stepOf r k d p)
   pub step-numbered : (r : Record) (n d p : ℕ) → StepTells r (kindOf n) d p (stepOf r (kindOf n) d p)
-  -- the record that is lent holds the next record at exit, so what is said of a step is said of it
-  pub step-lent : (r : Record) (k : Kind) (d p : ℕ) → StepTells r k d p (stepOf r k d p)
+  -- "finds it altered, or as it was after a refusal": what is said of a step is said of the record that is lent and of what is told;
+  pub step-lent : (r : Record) (k : Kind) (d p : ℕ) (exit : Record) (told : Told) → Lent r k d p exit told → StepTells r k d p (telling exit told)
+  -- lent for one step after the other, it goes through the records of these steps, and those of a run
+  pub lent-steps : (r : Record) (rows : List StepRow) (last : Record) (told : List Told) → LentRows r rows last told → LentIsSteps r rows last told
+  pub lent-run : (r : Record) (steps doors persons answers phases reasons : List ℕ) → runOf r steps doors persons answers phases reasons .answer ≡ Done
+      → (last : Record) (told : List Told) → LentRows r (rowsOf steps doors persons) last told
+      → LentIsRun r steps doors persons answers phases reasons last told
   pub card : (r : Record) (d p : ℕ) → StepTells r Card d p (stepOf r Card d p)
   pub decide : (r : Record) (d : ℕ) → StepTells r Decide d 0 (stepOf r Decide d 0)
   pub green : (r : Record) (d : ℕ) → StepTells r Green d 0 (stepOf r Green d 0)
@@ -359,8 +375,10 @@ pub record StepsAnswers : Type 0 where
 -- ---- crates `run_text`, `run` and `sheet_files`
 
 pub record RunAnswers : Type 0 where
-  pub panel-text : (site steps out : List ℕ) → TextTells (panelText site steps) out
-  pub where-text : (site steps out : List ℕ) → TextTells (whereText site steps) out
+  pub panel-text : (site steps out : List ℕ) (told : Printed) (after : List ℕ) → Prints (panelText site steps) out told after
+      → TextTells (panelText site steps) out told after
+  pub where-text : (site steps out : List ℕ) (told : Printed) (after : List ℕ) → Prints (whereText site steps) out told after
+      → TextTells (whereText site steps) out told after
   -- the list for a sheet has a byte more than a sheet may have, so that a longer file is seen to be longer
   pub blank-sheet : (s : List ℕ) → length s ≤ limit → length s < length {A = ℕ} (replicate (limit + 1) 0)
   -- no text is too long for the lists that the programs lend,

@@ -43,13 +43,13 @@ use Rattle.demands.specs.WholeRun.{runOf01, rowsHeard}
 
 -- ---- the way outside
 
--- "everybody has a signed way outside which they may use": person p of record r, from where they are
-pub record WayOutside (r : Record) (p : ℕ) : Type 0 where
+-- "everybody has a signed way outside which they may use": person p of record r, from where they are, by the tables of record site
+pub record WayOutside (site r : Record) (p : ℕ) : Type 0 where
   pub way : List ℕ
   -- "its exit followed by the way out of that exit, and nothing for location 0"
-  pub signed : Way (r .exit) (getD (r .place) p 0) way
+  pub signed : Way (site .exit) (getD (r .place) p 0) way
   -- to 0, through doors, by locations that they may be in
-  pub usable : SafeWay (planOf r) (r .right) p (getD (r .place) p 0) way
+  pub usable : SafeWay (planOf site) (site .right) p (getD (r .place) p 0) way
   -- "has at most 31 members"
   pub short : length way ≤ mostLocations - 1
   -- and it is what the question for the way out tells and writes into any list that has room for it
@@ -97,6 +97,12 @@ pub record Decided (r : Record) (d : ℕ) (s : Step) : Type 0 where
 
 -- ---- what steps alter
 
+-- "The tables, and beside them ..": what the record keeps of the sheet is the same in both records
+pub record SameTables (r next : Record) : Type 0 where
+  -- the counts, the doors and the exits
+  pub same-plan : planOf next ≡ planOf r
+  pub same-rights : next .right ≡ r .right
+
 -- the steps that act and alter nothing: a tick of a door in neither 3 nor 7, and an order for a light whose countdown is still whole
 pub data NothingToAlter (r : Record) (d : ℕ) : Kind → Type 0 where
   no-light : (getD (r .phase) d 0 ≡ green → ⊥) → (getD (r .phase) d 0 ≡ red → ⊥) → NothingToAlter r d Tick
@@ -104,20 +110,13 @@ pub data NothingToAlter (r : Record) (d : ℕ) : Kind → Type 0 where
   red-whole : getD (r .phase) d 0 ≡ red → getD (r .count) d 0 ≡ redSpan → NothingToAlter r d Red
 
 -- "A green door that gets neither another `green` nor a `walk` is expired after exactly as many of its own ticks as its countdown
--- says": s is what the order for a light answered at door d. The countdown is the span less the door's ticks since, whatever happens
--- at other doors, and with the last of them the light is out; the person whom the door holds stays
-pub record CountsDown (r : Record) (d : ℕ) (s : Step) (Quiet : StepRow → Type 0) (burning out span : ℕ) : Type 0 where
-  pub burns : (rows : List StepRow) → Each Quiet rows → ticks d rows < span
-      → doorOf (lastOf (s .next) rows) d ≡ door burning (getD (r .holder) d 0) (span - ticks d rows)
-  pub ends : (rows : List StepRow) → Each Quiet rows → ticks d rows + 1 ≡ span
-      → (p : ℕ) → doorOf (stepOf (lastOf (s .next) rows) Tick d p .next) d ≡ door out (getD (r .holder) d 0) 0
-
--- "`green`: .. countdown 300. `red`: .. countdown 20."
-abbrev pub GreenCounts : Record → ℕ → Step → Type 0
-GreenCounts r d s = CountsDown r d s (NoGreenNoWalk d) green expired greenSpan
-
-abbrev pub RedCounts : Record → ℕ → Step → Type 0
-RedCounts r d s = CountsDown r d s (NoRed d) red dimmed redSpan
+-- says": a light burns at door d of r. Through steps that are so, whatever they do at other doors, it burns while the door's ticks are
+-- fewer than its countdown, which is less by just those; with the tick that makes them as many it is out. The door's person stays
+pub record CountsDown (r : Record) (d : ℕ) (Quiet : StepRow → Type 0) (burning out : ℕ) : Type 0 where
+  pub burns : (rows : List StepRow) → Each Quiet rows → ticks d rows < getD (r .count) d 0
+      → doorOf (lastOf r rows) d ≡ door burning (getD (r .holder) d 0) (getD (r .count) d 0 - ticks d rows)
+  pub ends : (rows : List StepRow) → Each Quiet rows → ticks d rows + 1 ≡ getD (r .count) d 0
+      → (p : ℕ) → doorOf (stepOf (lastOf r rows) Tick d p .next) d ≡ door out (getD (r .holder) d 0) 0
 
 -- ---- all of it
 
@@ -126,10 +125,11 @@ pub record DemandTwo : Type 1 where
   pub accepted : (s : List ℕ) → (siteOf s .verdict ≡ Accepted) ↔ Obeys limit s
   -- "and its record holds what its rows say,"
   pub holds : (s : List ℕ) → siteOf s .verdict ≡ Accepted → AcceptedRecord limit s
-  -- "so everybody has a signed way outside which they may use": in every sound record, and so after any list of steps
-  pub way-outside-of : (r : Record) → Shaped r → Sound r → (p : ℕ) → p < r .people → WayOutside r p
+  -- "so everybody has a signed way outside which they may use": in every sound record, and after any list of steps by the tables of
+  -- the sheet's own record
+  pub way-outside-of : (r : Record) → Shaped r → Sound r → (p : ℕ) → p < r .people → WayOutside r r p
   pub way-outside : (s : List ℕ) → siteOf s .verdict ≡ Accepted → (rows : List StepRow) (p : ℕ) → p < siteOf s .«record» .people
-      → WayOutside (lastOf (siteOf s .«record») rows) p
+      → WayOutside (siteOf s .«record») (lastOf (siteOf s .«record») rows) p
   -- "Each step does what the events of the location access chapter .. say: it acts exactly when it may,"
   pub step : (r : Record) → Shaped r → Sound r → (k : Kind) (d p : ℕ) → StepIsEvent r k d p
   -- "is green exactly when all three conditions hold, otherwise red with the first reason that applies."
@@ -150,9 +150,19 @@ pub record DemandTwo : Type 1 where
   -- them: row 2 is granted and row 6 denied, 9 and 10 are refused and all others act; and `where` prints 1 of person 0, 0 of person 1
   pub whole-run : heardOf freshSite (rowsHeard runOf01) ≡ runOf01
   pub whole-run-places : (getD (lastOf freshSite (rowsHeard runOf01) .place) 0 0 ≡ 1) × (getD (lastOf freshSite (rowsHeard runOf01) .place) 1 0 ≡ 0)
+  -- whatever they do, a step and a list of steps leave the tables alone
+  pub tables-stay : (r : Record) (k : Kind) (d p : ℕ) → SameTables r (stepOf r k d p .next)
+  pub run-tables-stay : (r : Record) (rows : List StepRow) → SameTables r (lastOf r rows)
   -- "one whose steps alter nothing": a step that acts alters the record, but for those that have nothing to alter
   pub alters : (r : Record) → Shaped r → Sound r → (k : Kind) (d p : ℕ) → stepOf r k d p .answer ≡ Done
       → (stepOf r k d p .next ≡ r) ↔ NothingToAlter r d k
-  -- "and one whose countdown isn't the span less its ticks"
-  pub green-counts : (r : Record) → Shaped r → Sound r → (d p : ℕ) → stepOf r Green d p .answer ≡ Done → GreenCounts r d (stepOf r Green d p)
-  pub red-counts : (r : Record) → Shaped r → Sound r → (d p : ℕ) → stepOf r Red d p .answer ≡ Done → RedCounts r d (stepOf r Red d p)
+  -- "and one whose countdown isn't the span less its ticks": "`green`: .. countdown 300. `red`: .. countdown 20.",
+  pub green-ordered : (r : Record) → Shaped r → Sound r → (d p : ℕ) → stepOf r Green d p .answer ≡ Done
+      → doorOf (stepOf r Green d p .next) d ≡ door green (getD (r .holder) d 0) greenSpan
+  pub red-ordered : (r : Record) → Shaped r → Sound r → (d p : ℕ) → stepOf r Red d p .answer ≡ Done
+      → doorOf (stepOf r Red d p .next) d ≡ door red (getD (r .holder) d 0) redSpan
+  -- and from any countdown on, a light burns for just so many ticks
+  pub green-counts : (r : Record) → Shaped r → Sound r → (d : ℕ) → d < r .doors → getD (r .phase) d 0 ≡ green
+      → CountsDown r d (NoGreenNoWalk d) green expired
+  pub red-counts : (r : Record) → Shaped r → Sound r → (d : ℕ) → d < r .doors → getD (r .phase) d 0 ≡ red
+      → CountsDown r d (NoRed d) red dimmed

@@ -13,7 +13,8 @@
 --     lapsed-frees                             after `lapsed` the person holds no grant
 --     green-burns, green-expires, red-burns, red-dims
 --                                              a light burns for exactly as many ticks of its door as its countdown says
---     run-sound, run-shaped, run-plan          the same of a whole list of steps
+--     run-sound, run-shaped, run-plan, run-rights
+--                                              the same of a whole list of steps
 -- Assumes nothing.
 use Prim.Native.Nat.{ℕ, suc, _≤_, _<_, _-_, _+_}
 use mathlib.Core.Path.{_≡_, refl, sym, ap, subst, _∙_}
@@ -576,8 +577,13 @@ unfolding lastOf
 run-shaped r [] sh = sh
 run-shaped r (row ∷ rows) sh = run-shaped (rowOf r row .next) rows (shaped-stays r (row .kind) (row .at) (row .person) sh)
 
--- and keeps its plan
+-- and keeps its plan and its rights
 pub run-plan : (r : Record) (rows : List StepRow) → planOf (lastOf r rows) ≡ planOf r
 unfolding lastOf
 run-plan r [] = refl
 run-plan r (row ∷ rows) = run-plan (rowOf r row .next) rows ∙ plan-stays r (row .kind) (row .at) (row .person)
+
+pub run-rights : (r : Record) (rows : List StepRow) → lastOf r rows .right ≡ r .right
+unfolding lastOf
+run-rights r [] = refl
+run-rights r (row ∷ rows) = run-rights (rowOf r row .next) rows ∙ rights-stay r (row .kind) (row .at) (row .person)
