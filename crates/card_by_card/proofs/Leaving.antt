@@ -13,14 +13,13 @@ use Rattle.tables.proofs.WayOut.{the-way}
 use Rattle.record.specs.declared.record.Record.{Record}
 use Rattle.door.specs.Door.{freeDoor}
 use Rattle.record.specs.Doors.{planOf, doorOf, putAt, Shaped}
-use Rattle.record.specs.Deeds.{holding}
 use Rattle.granting.specs.Grants.{GrantAt}
 use Rattle.record.specs.Sound.{Sound}
 use Rattle.record.proofs.Keep.{at-shaped, at-sound}
 use Rattle.record.proofs.Ask.{place-is-location, way-out-safe}
 use Rattle.run_events.specs.Events.{Passage, event}
 use Rattle.card_by_card.specs.Leaving.{OnTheWay, here, further, FreeDoors, arrived, through, passagesOf, WalksOut}
-use Rattle.card_by_card.proofs.Serial.{Serves, passes-through}
+use Rattle.card_by_card.proofs.Serial.{placed, Serves, passes-through}
 use Rattle.card_by_card.proofs.Runs.{ServesAll, none, more, all-lead, all-decide}
 
 -- doors are as free when somebody is put elsewhere
@@ -30,10 +29,10 @@ still-free p n (through leads is-free on) = through leads is-free (still-free p 
 
 -- somebody put twice is where they were put last, and put where they are is no change
 at-at : (r : Record) (p l m : ℕ) → putAt (putAt r p l) p m ≡ putAt r p m
-at-at r p l m = ap (λ (place : List ℕ). holding r place (r .phase) (r .holder) (r .count)) (set-set (r .place) p l m)
+at-at r p l m = ap (placed r) (set-set (r .place) p l m)
 
 at-as-is : (r : Record) (p l : ℕ) → getD (r .place) p 0 ≡ l → putAt r p l ≡ r
-at-as-is r p l is = ap (λ (place : List ℕ). holding r place (r .phase) (r .holder) (r .count)) (rw (sym is) (set-getD (r .place) p 0))
+at-as-is r p l is = ap (placed r) (rw (sym is) (set-getD (r .place) p 0))
 
 -- each door of the way is passed, one after the other
 walk : (way : List ℕ) (r : Record) → Shaped r → Sound r → (p : ℕ) → p < r .people → ((e : ℕ) → GrantAt (r .doors) (r .phase) (r .holder) p e → ⊥)

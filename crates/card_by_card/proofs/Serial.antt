@@ -20,6 +20,7 @@ use Rattle.record.specs.declared.steps.Step.{Step}
 use Rattle.phases.specs.Phase.{read, granted, green, walked, expired, denied, red, dimmed, closed, greenSpan, redSpan, grants}
 use Rattle.door.specs.Door.{door, freeDoor}
 use Rattle.record.specs.Doors.{planOf, doorOf, putDoor, putAt, Shaped}
+use Rattle.record.specs.Deeds.{holding}
 use Rattle.granting.specs.Grants.{GrantAt}
 use Rattle.record.specs.Sound.{Sound}
 use Rattle.phases.specs.Kinds.{StepRow, allows, namesPerson}
@@ -210,13 +211,17 @@ module _ (x : Record) (d : ℕ) where
 
 -- ---- the whole service of an event
 
--- a service begun at a record acts and leads to another, its `decide` answers as the event's did, but for reason 3, and who is
--- moved is who passed
+-- the record with these places, and all else as it was
+abbrev pub placed : Record → List ℕ → Record
+placed r place = holding r place (r .phase) (r .holder) (r .count)
+
+-- a service begun at a record acts and leads to another, its `decide` answers as the event's did, but for reason 3, who is moved is
+-- who passed, and all else is as it was
 pub record Serves (r : Record) (e : RunEvent) (after : Record) : Type 0 where
   pub leads : Leads r (serviceOf e) after
   pub decides : Reads (decideOf r e .phase) (decideOf r e .reason) (servedAs (e .what))
   pub moved : after .place ≡ placesBy (r .destination) (r .place) (e ∷ [])
-  pub same-doors : after .destination ≡ r .destination
+  pub rest : after ≡ placed r (after .place)
 
 -- a door put as it is, is no change
 pub put-as-is : (r : Record) (d : ℕ) (c : Door) → doorOf r d ≡ c → putDoor r d c ≡ r
@@ -289,10 +294,10 @@ module _ (x : Record) (sh : Shaped x) (s : Sound x) (d : ℕ) (hd : d < x .doors
   -- the service of an event of row n, from what its `decide` does and what follows
   module _ (n : ℕ) where
     serves : (c : Door) (why : ℕ) (what : What) (y : Record) → Decided c why → Reads (c .phase) why (servedAs what)
-        → y .place ≡ placesBy (x .destination) (x .place) (event n d h what ∷ []) → y .destination ≡ x .destination → doorOf y d ≡ freeDoor
+        → y .place ≡ placesBy (x .destination) (x .place) (event n d h what ∷ []) → y ≡ placed x (y .place) → doorOf y d ≡ freeDoor
         → (At x d c → Leads (putDoor x d c) (afterDecide (servedAs what) d) (putDoor y d freeDoor)) → Serves x (event n d h what) y
     unfolding serviceOf
-    serves c why what y decided told moved same free-again on =
+    serves c why what y decided told moved rest free-again on =
         let card : stepOf x Card d h ≡ turned x d (door read h 0) 0 = rw (put-as-is x d freeDoor is-free) at card-turns in
         record {
           leads =
@@ -301,7 +306,7 @@ module _ (x : Record) (sh : Shaped x) (s : Sound x) (d : ℕ) (hd : d < x .doors
               (rw (put-as-is y d freeDoor free-again) at (on (at-next x d (door read h 0) read-at Decide 0 c why decided))));
           decides = rw (card, decided) told;
           moved = moved;
-          same-doors = same;
+          rest = rest;
         }
 
     -- a card denied for why, which is served so, alters nothing
