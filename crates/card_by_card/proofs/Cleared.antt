@@ -1,19 +1,14 @@
 -- The record with its doors cleared: the tables and the places of a record, and every door free. Assumes nothing.
 use Prim.Native.Nat.{ℕ}
-use mathlib.Core.Path.{_≡_, sym, ap, subst, _∙_}
+use mathlib.Core.Path.{_≡_, sym, subst}
 use mathlib.Core.Bool.{Bool}
 use mathlib.Core.List.{List}
-use lib.ListN.{set}
-use lib.Seq.{set-getD}
 use Rattle.tables.specs.Tables.{Plan, mostDoors}
 use Rattle.record.specs.declared.record.Record.{Record}
 use Rattle.door.specs.Door.{freeDoor}
-use Rattle.record.specs.Doors.{recordOf, planOf, doorOf, putDoor, zeros, Shaped}
+use Rattle.record.specs.Doors.{planOf, recordOf, doorOf, zeros, Shaped}
 use Rattle.record.specs.Sound.{DoorOk, Sound}
 use Rattle.record.proofs.Fresh.{zeros-at, zeros-long, free-ok}
-
-zeros-put : (d : ℕ) → set (zeros mostDoors) d 0 ≡ zeros mostDoors
-zeros-put d = ap (λ (n : ℕ). set (zeros mostDoors) d n) (sym (zeros-at mostDoors d)) ∙ set-getD (zeros mostDoors) d 0
 
 -- ---- the record with its doors cleared
 
@@ -26,10 +21,6 @@ cleared r = clear (planOf r) (r .right) (r .place)
 
 pub clear-free : (site : Plan) (right : List Bool) (place : List ℕ) (d : ℕ) → doorOf (clear site right place) d ≡ freeDoor
 clear-free site right place d = let z = zeros-at mostDoors d in λ i. record { phase = z i; holder = z i; count = z i }
-
--- a door put free there is no change
-pub put-free : (site : Plan) (right : List Bool) (place : List ℕ) (d : ℕ) → putDoor (clear site right place) d freeDoor ≡ clear site right place
-put-free site right place d = let z = zeros-put d in λ i. recordOf site right place (z i) (z i) (z i)
 
 pub clear-shaped : (r : Record) → Shaped r → Shaped (cleared r)
 clear-shaped r sh =

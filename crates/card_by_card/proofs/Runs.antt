@@ -23,7 +23,7 @@ use Rattle.record.specs.Sound.{Sound}
 use Rattle.phases.specs.Kinds.{StepRow, allows, namesPerson}
 use Rattle.door.specs.declared.does.Does.{Does}
 use Rattle.door.specs.Does.{effect}
-use Rattle.record.specs.Steps.{reasonFor, First, busy, act, refused, doing, stepOf}
+use Rattle.record.specs.Steps.{reasonFor, First, act, refused, doing, stepOf}
 use Rattle.record.specs.Run.{rowOf, lastOf, repliesOf}
 use Rattle.tables.proofs.Cases.{either, same-or-not}
 use Rattle.record.proofs.Right.{reason-first, grants-keeps}
@@ -94,12 +94,6 @@ none-served n at person (what ∷ whats) d ne = go (endsCard what) (none-served 
     go true on = rw (ne-eqb d at ne) on
     go false on = on
 
--- a grant that a door holds: at another record it would be in the way, at the cleared one it isn't
-grant-held : (r : Record) → Sound r → (d : ℕ) → d < r .doors → grants (getD (r .phase) d 0) ≡ true → First r d (getD (r .holder) d 0) 3
-grant-held r s d hd g =
-    let ok = s .doors d hd in
-    busy (ok .starts g) (ok .may g) d (record { exists = hd; holds = g; person = refl })
-
 -- what a step that is done records is served from the cleared record before it to the cleared record after it
 module _ (n : ℕ) (r : Record) (sh : Shaped r) (s : Sound r) (d : ℕ) (hd : d < r .doors) where
   abbrev c : Door
@@ -131,10 +125,10 @@ module _ (n : ℕ) (r : Record) (sh : Shaped r) (s : Sound r) (d : ℕ) (hd : d 
       (λ _. either (Recorded Tick 0) (eqb (c .phase) red) (λ _. either (Recorded Tick 0) (ltb 1 (c .count)) (λ _. none) (λ _. none)) (λ _. none))
   serves-done Passed p ok =
       let g : grants (c .phase) ≡ true = rw (eqb-true (c .phase) walked ok) in
-      more (serves-passage r sh s d hd (c .holder) (held (grants-keeps (c .phase) g)) n (grant-held r s d hd g)) none
+      more (serves-passage r sh s d hd (c .holder) (held (grants-keeps (c .phase) g)) n (s .doors d hd .starts g) (s .doors d hd .may g)) none
   serves-done Lapsed p ok =
       let g : grants (c .phase) ≡ true = rw (eqb-true (c .phase) expired ok) in
-      more (serves-lapse r sh s d hd (c .holder) (held (grants-keeps (c .phase) g)) n (grant-held r s d hd g)) none
+      more (serves-lapse r sh s d hd (c .holder) (held (grants-keeps (c .phase) g)) n (s .doors d hd .starts g) (s .doors d hd .may g)) none
   serves-done Dark p ok = none
   serves-done Ack p ok = none
   serves-done Unknown p ok = none

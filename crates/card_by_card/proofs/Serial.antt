@@ -1,16 +1,15 @@
--- One card served at a record whose doors are all free, step by step: what each step of the service does, its ticks, and the
--- whole service of a refusal, a lapse and a passage. Assumes nothing.
+-- One card served at a door that is free, step by step: what each step of the service does, its ticks, and the whole service of a
+-- refusal, a lapse and a passage; and so at a record whose doors are all free. Assumes nothing.
 use Prim.Native.Nat.{ℕ, zero, suc, _<_, _-_}
 use mathlib.Core.Path.{_≡_, refl, sym, ap, subst, _∙_}
-use mathlib.Core.Bool.{true, false, cond, false≢true}
+use mathlib.Core.Bool.{true, false, false≢true}
 use mathlib.Core.Logic.{⊎-elim}
 use mathlib.Core.List.{List, [], _∷_}
 use native.Mathlib.Omega.{arith}
 use borrow.Author.Tests.{lt-ltb, ne-eqb}
 use lib.ListN.{getD, set}
-use lib.Seq.{set-set}
-use lib.Dec.{eqb}
-use Rattle.tables.specs.Tables.{orElse, andAlso, mostDoors}
+use lib.Seq.{set-set, set-getD}
+use Rattle.tables.specs.Tables.{mayBe, orElse, andAlso, mostDoors}
 use Rattle.tables.proofs.Laws.{clash}
 use Rattle.door.specs.declared.Door.{Door}
 use Rattle.record.specs.declared.record.Record.{Record}
@@ -20,16 +19,17 @@ use Rattle.phases.specs.declared.answer.Answer.the-variants.{Done}
 use Rattle.record.specs.declared.steps.Step.{Step}
 use Rattle.phases.specs.Phase.{read, granted, green, walked, expired, denied, red, dimmed, closed, greenSpan, redSpan, grants}
 use Rattle.door.specs.Door.{door, freeDoor}
-use Rattle.record.specs.Doors.{planOf, doorOf, putDoor, putAt, zeros, Shaped}
+use Rattle.record.specs.Doors.{planOf, doorOf, putDoor, putAt, Shaped}
+use Rattle.record.specs.Deeds.{holding}
 use Rattle.granting.specs.Grants.{GrantAt}
 use Rattle.record.specs.Sound.{Sound}
 use Rattle.phases.specs.Kinds.{StepRow, allows, namesPerson}
 use Rattle.door.specs.declared.does.Does.the-variants.{Turns}
 use Rattle.door.specs.Does.{effect}
-use Rattle.record.specs.Steps.{reasonFor, First, none, away, barred, busy, act, doing, stepOf}
+use Rattle.record.specs.Steps.{reasonFor, Admitted, First, none, away, barred, busy, act, doing, stepOf}
 use Rattle.record.specs.Run.{rowOf, lastOf}
 use Rattle.tables.proofs.Cases.{same-or-not}
-use Rattle.record.proofs.Keep.{put-same, put-other, put-shaped, at-shaped}
+use Rattle.record.proofs.Keep.{put-same, put-grant, put-shaped, at-shaped}
 use Rattle.record.proofs.Right.{reason-only}
 use Rattle.record.proofs.Laws.{allowed-does, sound-stays}
 use Rattle.record.proofs.Tells.{sound-tells}
@@ -37,7 +37,7 @@ use Rattle.run_events.specs.Events.{What, Denial, Passage, Lapse, RunEvent, eve
 use Rattle.card_by_card.specs.Serving.{servedAs, stepAt, cardOf, ticked, afterDecide, serviceOf}
 use Rattle.card_by_card.specs.Served.{Acts, end, then, Reads, denying, passing, lapsing, decideOf}
 use Rattle.card_by_card.specs.Warden.{isPassage, placesBy}
-use Rattle.card_by_card.proofs.Cleared.{clear, cleared, clear-free, put-free, clear-shaped, clear-sound}
+use Rattle.card_by_card.proofs.Cleared.{clear, cleared, clear-free, clear-shaped, clear-sound}
 
 -- ---- steps that act
 
@@ -211,40 +211,65 @@ module _ (x : Record) (d : ℕ) where
 
 -- ---- the whole service of an event
 
--- a service begun at a record acts and leads to another, its `decide` answers as the event's did, but for reason 3, and who is
--- moved is who passed
+-- the record with these places, and all else as it was
+abbrev pub placed : Record → List ℕ → Record
+placed r place = holding r place (r .phase) (r .holder) (r .count)
+
+-- a service begun at a record acts and leads to another, its `decide` answers as the event's did, but for reason 3, who is moved is
+-- who passed, and all else is as it was
 pub record Serves (r : Record) (e : RunEvent) (after : Record) : Type 0 where
   pub leads : Leads r (serviceOf e) after
   pub decides : Reads (decideOf r e .phase) (decideOf r e .reason) (servedAs (e .what))
   pub moved : after .place ≡ placesBy (r .destination) (r .place) (e ∷ [])
-  pub same-doors : after .destination ≡ r .destination
+  pub rest : after ≡ placed r (after .place)
 
--- in the cleared record of r, a card of person h at door d
-module _ (r : Record) (sh : Shaped r) (s : Sound r) (d : ℕ) (hd : d < r .doors) (h : ℕ) (hh : h < r .people) where
-  abbrev x : Record
-  x = cleared r
+-- a door put as it is, is no change
+pub put-as-is : (r : Record) (d : ℕ) (c : Door) → doorOf r d ≡ c → putDoor r d c ≡ r
+put-as-is r d c e = subst (λ (x : Door). putDoor r d x ≡ r) e same
+  where
+    same : putDoor r d (doorOf r d) ≡ r
+    same =
+        let p = set-getD (r .phase) d 0 in
+        let q = set-getD (r .holder) d 0 in
+        let n = set-getD (r .count) d 0 in
+        λ i.
+        record {
+          people = r .people;
+          locations = r .locations;
+          doors = r .doors;
+          origin = r .origin;
+          destination = r .destination;
+          exit = r .exit;
+          right = r .right;
+          place = r .place;
+          phase = p i;
+          holder = q i;
+          count = n i;
+        }
 
-  -- nobody has a grant while the card is read
-  no-grants : (p e : ℕ) → GrantAt (r .doors) (set (zeros mostDoors) d read) (set (zeros mostDoors) d h) p e → ⊥
+-- the record with the card of person h read at door d
+abbrev shown : Record → ℕ → ℕ → Record
+shown x d h = putDoor x d (door read h 0)
+
+-- a record whose door d is free, and a card of person h there
+module _ (x : Record) (sh : Shaped x) (s : Sound x) (d : ℕ) (hd : d < x .doors) (is-free : doorOf x d ≡ freeDoor) (h : ℕ) (hh : h < x .people) where
+  -- whoever has no grant has none while the card is read
+  still-none : (p : ℕ) → ((e : ℕ) → GrantAt (x .doors) (x .phase) (x .holder) p e → ⊥)
+      → (e : ℕ) → GrantAt (x .doors) (shown x d h .phase) (shown x d h .holder) p e → ⊥
   unfolding grants andAlso
-  no-grants p e g =
+  still-none p nowhere e g =
       ⊎-elim
-      (λ is. clash (subst (λ (c : Door). grants (c .phase) ≡ true) (put-same x (clear-shaped r sh) d (door read h 0) (let most = s .tables .in-range .doors-to in omega arith)) (rw is at (g .holds))) refl)
-      (λ is-not. clash (subst (λ (c : Door). grants (c .phase) ≡ true) (put-other x d (door read h 0) e is-not ∙ clear-free (planOf r) (r .right) (r .place) e) (g .holds)) refl)
+      (λ is. clash (subst (λ (c : Door). grants (c .phase) ≡ true) (put-same x sh d (door read h 0) (let most = s .tables .in-range .doors-to in omega arith)) (rw is at (g .holds))) refl)
+      (λ is-not. nowhere e (put-grant x d (door read h 0) p e is-not g))
       (same-or-not e d)
 
-  -- so the reason there is the one of r, but for reason 3, which is none
-  reason-alone : (why : ℕ) → First r d h why → reasonFor (putDoor x d (door read h 0)) d h ≡ cond (eqb why 3) 0 why
-  reason-alone why (none a) =
-      reason-only (putDoor x d (door read h 0)) d h 0 (none (record { at-origin = a .at-origin; has-right = a .has-right; no-grant = no-grants h }))
-  reason-alone why (away a) = reason-only (putDoor x d (door read h 0)) d h 1 (away a)
-  reason-alone why (barred a b) = reason-only (putDoor x d (door read h 0)) d h 2 (barred a b)
-  reason-alone why (busy a b e g) =
-      reason-only (putDoor x d (door read h 0)) d h 0 (none (record { at-origin = a; has-right = b; no-grant = no-grants h }))
+  -- so whoever is admitted is admitted then
+  admitted-then : Admitted x d h → reasonFor (shown x d h) d h ≡ 0
+  admitted-then a =
+      reason-only (shown x d h) d h 0 (none (record { at-origin = a .at-origin; has-right = a .has-right; no-grant = still-none h (a .no-grant) }))
 
   free-at : At x d freeDoor
-  free-at =
-      record { shaped = clear-shaped r sh; sound = subst Sound (sym (put-free (planOf r) (r .right) (r .place) d)) (clear-sound r s); exists = hd }
+  free-at = record { shaped = sh; sound = subst Sound (sym (put-as-is x d freeDoor is-free)) s; exists = hd }
 
   card-turns : stepOf (putDoor x d freeDoor) Card d h ≡ turned x d (door read h 0) 0
   unfolding allows effect
@@ -255,54 +280,82 @@ module _ (r : Record) (sh : Shaped r) (s : Sound r) (d : ℕ) (hd : d < r .doors
 
   -- `decide` turns the door to c
   abbrev Decided : Door → ℕ → Type 0
-  Decided c why = stepOf (putDoor x d (door read h 0)) Decide d 0 ≡ turned x d c why
+  Decided c why = stepOf (shown x d h) Decide d 0 ≡ turned x d c why
 
-  decided-yes : reasonFor (putDoor x d (door read h 0)) d h ≡ 0 → Decided (door granted h 0) 0
+  decided-yes : Admitted x d h → Decided (door granted h 0) 0
   unfolding allows effect
-  decided-yes e = turns-to x d (door read h 0) read-at Decide 0 (door granted h 0) 0 (λ z. absurd (false≢true z)) refl (rw e)
+  decided-yes a = turns-to x d (door read h 0) read-at Decide 0 (door granted h 0) 0 (λ z. absurd (false≢true z)) refl (rw (admitted-then a))
 
-  decided-not : (why : ℕ) → (why ≡ 0 → ⊥) → reasonFor (putDoor x d (door read h 0)) d h ≡ why → Decided (door denied 0 0) why
+  decided-not : (why : ℕ) → (why ≡ 0 → ⊥) → First (shown x d h) d h why → Decided (door denied 0 0) why
   unfolding allows effect
-  decided-not why some e = turns-to x d (door read h 0) read-at Decide 0 (door denied 0 0) why (λ z. absurd (false≢true z)) refl (rw (e, ne-eqb why 0 some))
+  decided-not why some first =
+      turns-to x d (door read h 0) read-at Decide 0 (door denied 0 0) why (λ z. absurd (false≢true z)) refl (rw (reason-only (shown x d h) d h why first, ne-eqb why 0 some))
 
   -- the service of an event of row n, from what its `decide` does and what follows
   module _ (n : ℕ) where
-    serves : (c : Door) (why : ℕ) (what : What) (place : List ℕ) → Decided c why → Reads (c .phase) why (servedAs what)
-        → place ≡ placesBy (r .destination) (r .place) (event n d h what ∷ [])
-        → (At x d c → Leads (putDoor x d c) (afterDecide (servedAs what) d) (putDoor (clear (planOf r) (r .right) place) d freeDoor))
-        → Serves x (event n d h what) (clear (planOf r) (r .right) place)
+    serves : (c : Door) (why : ℕ) (what : What) (y : Record) → Decided c why → Reads (c .phase) why (servedAs what)
+        → y .place ≡ placesBy (x .destination) (x .place) (event n d h what ∷ []) → y ≡ placed x (y .place) → doorOf y d ≡ freeDoor
+        → (At x d c → Leads (putDoor x d c) (afterDecide (servedAs what) d) (putDoor y d freeDoor)) → Serves x (event n d h what) y
     unfolding serviceOf
-    serves c why what place decided told moved on =
-        let card : stepOf x Card d h ≡ turned x d (door read h 0) 0 = rw (put-free (planOf r) (r .right) (r .place) d) at card-turns in
+    serves c why what y decided told moved rest free-again on =
+        let card : stepOf x Card d h ≡ turned x d (door read h 0) 0 = rw (put-as-is x d freeDoor is-free) at card-turns in
         record {
           leads =
               leads-then x (cardOf (event n d h what)) (turned x d (door read h 0) 0) card refl
-              (leads-then (putDoor x d (door read h 0)) (stepAt Decide d) (turned x d c why) decided refl
-              (rw (put-free (planOf r) (r .right) place d) at (on (at-next x d (door read h 0) read-at Decide 0 c why decided))));
+              (leads-then (shown x d h) (stepAt Decide d) (turned x d c why) decided refl
+              (rw (put-as-is y d freeDoor free-again) at (on (at-next x d (door read h 0) read-at Decide 0 c why decided))));
           decides = rw (card, decided) told;
           moved = moved;
-          same-doors = refl;
+          rest = rest;
         }
 
-    -- a refused card is served, and nothing is altered
-    pub serves-denial : (why : ℕ) → (why ≡ 0 → ⊥) → First r d h why → Serves x (event n d h (Denial why)) x
+    -- a card denied for why, which is served so, alters nothing
+    refuses : (why : ℕ) → (why ≡ 0 → ⊥) → servedAs (Denial why) ≡ Denial why → First (shown x d h) d h why → Serves x (event n d h (Denial why)) x
+    unfolding placesBy isPassage
+    refuses why some as-is first =
+        serves (door denied 0 0) why (Denial why) x (decided-not why some first) (rw as-is (denying refl)) refl refl is-free (rw as-is (after-denial x d why))
+
+    -- whoever is admitted is granted, and it lapses: that alters nothing ..
+    lapses : (what : What) → servedAs what ≡ Lapse → isPassage what ≡ false → Admitted x d h → Serves x (event n d h what) x
+    unfolding placesBy
+    lapses what as-lapse still a =
+        serves (door granted h 0) 0 what x (decided-yes a) (rw as-lapse (lapsing refl refl)) (rw still refl) refl is-free (rw as-lapse (after-lapse x d h))
+
+    -- .. or it is used: then the person is in the door's destination, and all else is as it was
+    pub passes-through : Admitted x d h → Serves x (event n d h Passage) (putAt x h (getD (x .destination) d 0))
     unfolding servedAs placesBy isPassage
+    passes-through a =
+        serves (door granted h 0) 0 Passage (putAt x h (getD (x .destination) d 0)) (decided-yes a) (passing refl refl) refl refl is-free (after-passage x d h)
+
+-- in the cleared record of r, a card of person h at door d
+module _ (r : Record) (sh : Shaped r) (s : Sound r) (d : ℕ) (hd : d < r .doors) (h : ℕ) (hh : h < r .people) where
+  abbrev x : Record
+  x = cleared r
+
+  all-free : (e : ℕ) → doorOf x e ≡ freeDoor
+  all-free e = clear-free (planOf r) (r .right) (r .place) e
+
+  -- nobody has a grant there, so that whoever is where the door starts and has the right is admitted
+  alone : getD (r .place) h 0 ≡ getD (r .origin) d 0 → mayBe (r .right) h (getD (r .destination) d 0) ≡ true → Admitted x d h
+  unfolding grants andAlso
+  alone a b =
+      record { at-origin = a; has-right = b; no-grant = λ e g. clash (subst (λ (c : Door). grants (c .phase) ≡ true) (all-free e) (g .holds)) refl }
+
+  module _ (n : ℕ) where
+    -- a refused card is served, and nothing is altered; with reason 3 it is granted, and lapses unused
+    pub serves-denial : (why : ℕ) → (why ≡ 0 → ⊥) → First r d h why → Serves x (event n d h (Denial why)) x
+    unfolding servedAs isPassage
     serves-denial why some (none a) = absurd (some refl)
-    serves-denial why some (away a) =
-        serves (door denied 0 0) 1 (Denial 1) (r .place) (decided-not 1 some (reason-alone 1 (away a))) (denying refl) refl (after-denial x d 1)
-    serves-denial why some (barred a b) =
-        serves (door denied 0 0) 2 (Denial 2) (r .place) (decided-not 2 some (reason-alone 2 (barred a b))) (denying refl) refl (after-denial x d 2)
-    -- with reason 3 it is granted, and lapses unused
-    serves-denial why some (busy a b e g) =
-        serves (door granted h 0) 0 (Denial 3) (r .place) (decided-yes (reason-alone 3 (busy a b e g))) (lapsing refl refl) refl (after-lapse x d h)
+    serves-denial why some (away a) = refuses x (clear-shaped r sh) (clear-sound r s) d hd (all-free d) h hh n 1 some refl (away a)
+    serves-denial why some (barred a b) = refuses x (clear-shaped r sh) (clear-sound r s) d hd (all-free d) h hh n 2 some refl (barred a b)
+    serves-denial why some (busy a b e g) = lapses x (clear-shaped r sh) (clear-sound r s) d hd (all-free d) h hh n (Denial 3) refl refl (alone a b)
 
     -- a grant that the door holds in r is granted, and lapses ..
-    pub serves-lapse : First r d h 3 → Serves x (event n d h Lapse) x
-    unfolding servedAs placesBy isPassage
-    serves-lapse first = serves (door granted h 0) 0 Lapse (r .place) (decided-yes (reason-alone 3 first)) (lapsing refl refl) refl (after-lapse x d h)
+    pub serves-lapse : getD (r .place) h 0 ≡ getD (r .origin) d 0 → mayBe (r .right) h (getD (r .destination) d 0) ≡ true → Serves x (event n d h Lapse) x
+    unfolding servedAs isPassage
+    serves-lapse a b = lapses x (clear-shaped r sh) (clear-sound r s) d hd (all-free d) h hh n Lapse refl refl (alone a b)
 
     -- .. or is used, and the person is in the door's destination
-    pub serves-passage : First r d h 3 → Serves x (event n d h Passage) (clear (planOf r) (r .right) (set (r .place) h (getD (r .destination) d 0)))
-    unfolding servedAs placesBy isPassage
-    serves-passage first =
-        serves (door granted h 0) 0 Passage (set (r .place) h (getD (r .destination) d 0)) (decided-yes (reason-alone 3 first)) (passing refl refl) refl (after-passage x d h)
+    pub serves-passage : getD (r .place) h 0 ≡ getD (r .origin) d 0 → mayBe (r .right) h (getD (r .destination) d 0) ≡ true
+        → Serves x (event n d h Passage) (clear (planOf r) (r .right) (set (r .place) h (getD (r .destination) d 0)))
+    serves-passage a b = passes-through x (clear-shaped r sh) (clear-sound r s) d hd (all-free d) h hh n (alone a b)

@@ -21,10 +21,10 @@ use Rattle.record.proofs.Laws.{places-stay}
 use Rattle.run_events.specs.Events.{What, Grant, Denial, Passage, Lapse, RunEvent}
 use Rattle.card_by_card.specs.Serving.{recordedIn}
 use Rattle.card_by_card.specs.Served.{Fresh}
-use Rattle.card_by_card.specs.Warden.{isPassage, placesBy, NoPassage, end, then, StandsBy, never, last, PutByPassages, RefusedMovesNobody}
+use Rattle.card_by_card.specs.Warden.{isPassage, placesBy, NoPassage, end, then, StandsBy, never, last, PutByPassages, Struck, no-more, keep, strike, RefusedMovesNobody}
 use Rattle.record.proofs.Fresh.{zeros-at}
-use Rattle.card_by_card.proofs.Serial.{Serves}
-use Rattle.card_by_card.proofs.Runs.{ServesAll, none, more, serves-both, all-lead, last-both}
+use Rattle.card_by_card.proofs.Serial.{placed, Serves}
+use Rattle.card_by_card.proofs.Runs.{ServesAll, none, more, serves-both, all-lead, all-decide, last-both}
 use Rattle.card_by_card.proofs.DemandThree.{all-served}
 
 -- ---- places by recorded passages
@@ -33,7 +33,7 @@ use Rattle.card_by_card.proofs.DemandThree.{all-served}
 all-moved : {x y : Record} {es : List RunEvent} → ServesAll x es y → y .place ≡ placesBy (x .destination) (x .place) es
 unfolding placesBy
 all-moved none = refl
-all-moved (more {es} s on) = all-moved on ∙ rw (s .same-doors, s .moved)
+all-moved (more {es} s on) = all-moved on ∙ rw (ap (λ (y : Record). y .destination) (s .rest), s .moved)
 
 passage : (e : What) → isPassage e ≡ true → e ≡ Passage
 unfolding isPassage
@@ -104,11 +104,15 @@ refusal-still : (destination place : List ℕ) (e : RunEvent) (es : List RunEven
 unfolding placesBy isPassage
 refusal-still destination place e es why is = rw is
 
-strike : (destination place : List ℕ) (before after : List RunEvent) (e : RunEvent) (why : ℕ) → e .what ≡ Denial why
-    → placesBy destination place (before ++ (e ∷ after)) ≡ placesBy destination place (before ++ after)
+-- and its service alters nothing, so that the others are served without it
+denial-still : {x y : Record} {e : RunEvent} → Serves x e y → (why : ℕ) → e .what ≡ Denial why → y ≡ x
 unfolding placesBy
-strike destination place [] after e why is = refusal-still destination place e after why is
-strike destination place (b ∷ before) after e why is = strike destination _ before after e why is
+denial-still {x} {e} s why is = s .rest ∙ ap (placed x) (s .moved ∙ refusal-still (x .destination) (x .place) e [] why is)
+
+struck-served : {x z : Record} {es left : List RunEvent} → ServesAll x es z → Struck es left → ServesAll x left z
+struck-served none no-more = none
+struck-served (more s on) (keep struck) = more s (struck-served on struck)
+struck-served {z} {left} (more s on) (strike why is struck) = subst (λ (y : Record). ServesAll y left z) (denial-still s why is) (struck-served on struck)
 
 moves-nobody : (k : Kind) → (k ≡ Decide) ⊎ (k ≡ Card) → k ≡ Passed → ⊥
 moves-nobody k (inl e) is = let z : _≡_ {A = ℕ} 0 1 = cc in omega arith
@@ -127,6 +131,7 @@ refused-moves-nobody r f rows =
           ap (λ (x : Record). x .place) (all-lead (serves-both (at .2) (more (at .3) none)) .last)
           ∙ (at .3 .moved ∙ refusal-still (at .0 .destination) (at .0 .place) e [] why is)
           ∙ ap (λ (x : Record). x .place) (sym (all-lead (at .2) .last));
-      struck-out = λ before after e why split is.
-          put-by-passages r f rows .places ∙ ap (placesBy (r .destination) (r .place)) split ∙ strike (r .destination) (r .place) before after e why is;
+      struck-out = λ events struck.
+          let served = struck-served (all-served r f rows) struck in
+          record { acts = all-lead served .acts; decides = all-decide served; places = ap (λ (x : Record). x .place) (all-lead served .last) };
     }

@@ -11,6 +11,7 @@ use Rattle.record.specs.Run.{lastOf}
 use Rattle.phases.specs.Kinds.{StepRow}
 use Rattle.run_events.specs.Events.{What, Grant, Denial, Passage, Lapse, RunEvent}
 use Rattle.card_by_card.specs.Serving.{recordedIn, services}
+use Rattle.card_by_card.specs.Served.{Acts, Decides}
 
 unfoldable pub isPassage : What → Bool
 isPassage Grant = false
@@ -44,6 +45,19 @@ pub record PutByPassages (fresh : Record) (rows : List StepRow) : Type 0 where
   -- .. so each person stands where their last recorded passage leads, and outside where there is none
   pub each : (p : ℕ) → p < fresh .people → StandsBy (fresh .destination) p 0 (recordedIn fresh rows) (getD (lastOf fresh rows .place) p 0)
 
+-- a list of events, and the same with refused cards struck from it
+pub data Struck : List RunEvent → List RunEvent → Type 0 where
+  no-more : Struck [] []
+  keep : {e : RunEvent} {es left : List RunEvent} → Struck es left → Struck (e ∷ es) (e ∷ left)
+  strike : {e : RunEvent} {es left : List RunEvent} (why : ℕ) → e .what ≡ Denial why → Struck es left → Struck (e ∷ es) left
+
+-- events served one after the other from the fresh record, by the panel's own steps: every step acts, each `decide` gives the decision
+-- and the reason of its event, but for reason 3, and everyone stands in these places
+pub record ServedTo (fresh : Record) (events : List RunEvent) (place : List ℕ) : Type 0 where
+  pub acts : Acts fresh (services events)
+  pub decides : Decides fresh events
+  pub places : lastOf fresh (services events) .place ≡ place
+
 -- "A refused card moves nobody":
 pub record RefusedMovesNobody (fresh : Record) (rows : List StepRow) : Type 0 where
   -- wherever in the list a `decide` stands, or a `card`, everyone is in the same place before and after it;
@@ -52,6 +66,6 @@ pub record RefusedMovesNobody (fresh : Record) (rows : List StepRow) : Type 0 wh
   -- the service of a refused card moves nobody;
   pub in-the-serving : (before after : List RunEvent) (e : RunEvent) (why : ℕ) → recordedIn fresh rows ≡ before ++ (e ∷ after) → e .what ≡ Denial why
       → lastOf fresh (services (before ++ (e ∷ []))) .place ≡ lastOf fresh (services before) .place
-  -- and with the refused card struck from the list everyone would stand where they stand
-  pub struck-out : (before after : List RunEvent) (e : RunEvent) (why : ℕ) → recordedIn fresh rows ≡ before ++ (e ∷ after) → e .what ≡ Denial why
-      → lastOf fresh rows .place ≡ placesBy (fresh .destination) (fresh .place) (before ++ after)
+  -- and the others served from fresh without it, or without several refused cards, act, are decided as they were and lead everyone to
+  -- where they stand
+  pub struck-out : (events : List RunEvent) → Struck (recordedIn fresh rows) events → ServedTo fresh events (lastOf fresh rows .place)

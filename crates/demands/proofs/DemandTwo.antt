@@ -8,7 +8,6 @@ use mathlib.Core.Logic.{_↔_}
 use native.Mathlib.Omega.{arith}
 use borrow.Author.Tests.{eqb-true, eqb-false, ltb-true, ne-eqb, lt-ltb, le-leb}
 use lib.ListN.{length, getD, drop}
-use lib.Seq.{set-getD}
 use lib.Dec.{eqb, ltb}
 use Rattle.tables.specs.Tables.{Plan, orElse, andAlso}
 use Rattle.tables.proofs.Laws.{clash}
@@ -24,7 +23,7 @@ use Rattle.phases.specs.declared.answer.Answer.the-variants.{Done}
 use Rattle.record.specs.declared.steps.Step.{Step}
 use Rattle.phases.specs.declared.answer.WayAnswer.the-variants.{Length}
 use Rattle.phases.specs.Phase.{free, read, granted, green, walked, expired, denied, red, dimmed, closed, greenSpan, redSpan}
-use Rattle.record.specs.Doors.{planOf, doorOf, putDoor, Shaped}
+use Rattle.record.specs.Doors.{planOf, doorOf, Shaped}
 use Rattle.phases.specs.Kinds.{StepRow, allows, namesPerson}
 use Rattle.record.specs.Sound.{Sound}
 use Rattle.door.specs.declared.does.Does.{Does}
@@ -34,7 +33,7 @@ use Rattle.record.specs.Run.{lastOf}
 use Rattle.record.specs.Lights.{NoGreenNoWalk, NoRed}
 use Rattle.record.specs.Questions.{wayAnswerOf, wayWritten}
 use Rattle.tables.proofs.Cases.{either}
-use Rattle.record.proofs.Ask.{place-is-location, way-out-safe, way-out-short}
+use Rattle.record.proofs.Ask.{place-is-location, way-out-safe}
 use Rattle.record.proofs.Right.{admitted}
 use Rattle.record.proofs.Tells.{sound-tells}
 use Rattle.record.proofs.Laws.{done-did, barred-12, act-done, becomes, door-after, sound-stays, shaped-stays, plan-stays, rights-stay, run-sound, run-shaped, run-plan, run-rights}
@@ -48,9 +47,9 @@ use Rattle.chapter.proofs.Theorems.{fresh-reads, starts-each, step-acts, step-f
 use Rattle.chapter.specs.M4 as m4
 use Rattle.chapter.specs.Reading.{constantsOf, stateOf}
 use Rattle.chapter.specs.Panel.{StartOfEach}
-use Rattle.demands.specs.DemandTwo.{WayOutside, StepIsEvent, Light, Decided, SameTables, NothingToAlter, no-light, green-whole, red-whole, CountsDown}
+use Rattle.demands.specs.DemandTwo.{WayAsked, WayOutside, StepIsEvent, Light, Decided, SameTables, NothingToAlter, no-light, green-whole, red-whole, CountsDown}
 use Rattle.demands.proofs.DemandOne.{of-record}
-use Rattle.card_by_card.proofs.Serial.{step-done}
+use Rattle.card_by_card.proofs.Serial.{step-done, put-as-is}
 
 -- ---- the way outside
 
@@ -65,35 +64,60 @@ way-told r sh s l h list room =
     let q = le-leb (length (wayOf (r .locations) (r .exit) l)) (length list) room in
     (rw (t, e, q), rw (t, e, q))
 
-pub way-of : (r : Record) → Shaped r → Sound r → (p : ℕ) → p < r .people → WayOutside r r p
-way-of r sh s p h =
-    let l = getD (r .place) p 0 in
-    let there = place-is-location r s p h in
+-- and that way
+asks : (r : Record) → Shaped r → Sound r → (l : ℕ) → l < r .locations → WayAsked (r .exit) r l
+asks r sh s l h =
     record {
       way = wayOf (r .locations) (r .exit) l;
-      signed = the-way (s .tables) l there .is-way;
-      usable = way-out-safe r s p h;
-      short = way-out-short r p;
-      told = way-told r sh s l there;
+      signed = the-way (s .tables) l h .is-way;
+      short = the-way (s .tables) l h .short;
+      told = way-told r sh s l h;
     }
 
-pub after-steps : (s : List ℕ) → siteOf s .verdict ≡ Accepted → (rows : List StepRow) (p : ℕ) → p < siteOf s .«record» .people
-    → WayOutside (siteOf s .«record») (lastOf (siteOf s .«record») rows) p
-after-steps s e rows p h =
-    let a = accepted-holds limit s e in
-    let r = siteOf s .«record» in
-    let last = lastOf r rows in
-    let w = way-of last (run-shaped r rows (a .shaped)) (run-sound r rows (a .shaped) (a .sound)) p (rw (ap (λ (site : Plan). site .people) (run-plan r rows)) h) in
-    let l = getD (last .place) p 0 in
-    record {
-      way = w .way;
-      signed = subst (λ (site : Plan). Way (site .exit) l (w .way)) (run-plan r rows) (w .signed);
-      usable =
-          subst (λ (right : List Bool). SafeWay (planOf r) right p l (w .way)) (run-rights r rows)
-          (subst (λ (site : Plan). SafeWay site (last .right) p l (w .way)) (run-plan r rows) (w .usable));
-      short = w .short;
-      told = w .told;
-    }
+pub way-of : (r : Record) → Shaped r → Sound r → (p : ℕ) → p < r .people → WayOutside r r p
+unfolding asks
+way-of r sh s p h = record { asked = asks r sh s (getD (r .place) p 0) (place-is-location r s p h); usable = way-out-safe r s p h }
+
+-- after any list of steps from an accepted sheet
+module _ (s : List ℕ) (e : siteOf s .verdict ≡ Accepted) (rows : List StepRow) where
+  abbrev last : Record
+  last = lastOf (siteOf s .«record») rows
+
+  shaped : Shaped last
+  shaped = run-shaped (siteOf s .«record») rows (accepted-holds limit s e .shaped)
+
+  sound : Sound last
+  sound = let a = accepted-holds limit s e in run-sound (siteOf s .«record») rows (a .shaped) (a .sound)
+
+  plan-of : planOf last ≡ planOf (siteOf s .«record»)
+  plan-of = run-plan (siteOf s .«record») rows
+
+  rights-of : last .right ≡ siteOf s .«record» .right
+  rights-of = run-rights (siteOf s .«record») rows
+
+  -- the way is by the tables of the sheet's own record
+  pub after-steps : (p : ℕ) → p < siteOf s .«record» .people → WayOutside (siteOf s .«record») last p
+  after-steps p h =
+      let w = way-of last shaped sound p (rw (ap (λ (site : Plan). site .people) plan-of) h) in
+      let l = getD (last .place) p 0 in
+      let way = w .asked .way in
+      record {
+        asked =
+            record {
+              way = way;
+              signed = subst (λ (site : Plan). Way (site .exit) l way) plan-of (w .asked .signed);
+              short = w .asked .short;
+              told = w .asked .told;
+            };
+        usable =
+            subst (λ (right : List Bool). SafeWay (planOf (siteOf s .«record»)) right p l way) rights-of
+            (subst (λ (site : Plan). SafeWay site (last .right) p l way) plan-of (w .usable));
+      }
+
+  pub asks-after : (l : ℕ) → l < siteOf s .«record» .locations → WayAsked (siteOf s .«record» .exit) last l
+  asks-after l h =
+      subst (λ (site : Plan). WayAsked (site .exit) last l) plan-of
+      (asks last shaped sound l (rw (ap (λ (site : Plan). site .locations) plan-of) h))
 
 -- ---- a step and its event
 
@@ -218,30 +242,6 @@ module _ (r : Record) (d p why : ℕ) where
   only-then Dark ok e = let a = eqb-true (c .phase) dimmed ok in let b = phase-is e in absurd (omega arith)
   only-then Ack ok e = let a = eqb-true (c .phase) closed ok in let b = phase-is e in absurd (omega arith)
   only-then Unknown ok e = absurd (false≢true ok)
-
--- a door put as it is
-put-as-is : (r : Record) (d : ℕ) (c : Door) → doorOf r d ≡ c → putDoor r d c ≡ r
-put-as-is r d c e = subst (λ (x : Door). putDoor r d x ≡ r) e same
-  where
-    same : putDoor r d (doorOf r d) ≡ r
-    same =
-        let p = set-getD (r .phase) d 0 in
-        let q = set-getD (r .holder) d 0 in
-        let n = set-getD (r .count) d 0 in
-        λ i.
-        record {
-          people = r .people;
-          locations = r .locations;
-          doors = r .doors;
-          origin = r .origin;
-          destination = r .destination;
-          exit = r .exit;
-          right = r .right;
-          place = r .place;
-          phase = p i;
-          holder = q i;
-          count = n i;
-        }
 
 -- and a step that has nothing to alter alters nothing
 untouched : (r : Record) (k : Kind) (d p why : ℕ) → NothingToAlter r d k → act r d (effect k p why (doorOf r d)) .next ≡ r

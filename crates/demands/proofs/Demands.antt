@@ -4,12 +4,17 @@
 --     demand-2          `specs/DemandTwo.antt`
 --     demand-3          `specs/Served.antt`, by `specs/Serving.antt`
 --     put-by-passages, refused-moves-nobody         `specs/Warden.antt`
+--     walks-out         `specs/Leaving.antt`
 --     answers-unique    `specs/Unique.antt`
 --     twelve-cases      `specs/Cases.antt`
 -- They speak of the definitions that the promises in `src/` of each crate cite, so that they hold of the code. Assume nothing.
-use Prim.Native.Nat.{ℕ}
+use Prim.Native.Nat.{ℕ, _<_}
 use mathlib.Core.Path.{_≡_}
 use mathlib.Core.List.{List}
+use Rattle.record.specs.declared.record.Record.{Record}
+use Rattle.record.specs.Doors.{Shaped}
+use Rattle.granting.specs.Grants.{GrantAt}
+use Rattle.record.specs.Sound.{Sound}
 use Rattle.phases.specs.Kinds.{StepRow}
 use Rattle.verdict.specs.declared.Verdict.the-variants.{Accepted}
 use Rattle.grammar.specs.Sizes.{limit}
@@ -20,15 +25,17 @@ use Rattle.demands.specs.DemandOne.{DemandOne}
 use Rattle.demands.specs.DemandTwo.{DemandTwo}
 use Rattle.card_by_card.specs.Served.{DemandThree}
 use Rattle.card_by_card.specs.Warden.{PutByPassages, RefusedMovesNobody}
+use Rattle.card_by_card.specs.Leaving.{WalksOut}
 use Rattle.demands.specs.Unique.{AnswersUnique}
 use Rattle.demands.specs.Cases.{TwelveCases}
 use Rattle.demands.proofs.DemandOne.{of-sheet, of-rules, of-record, of-site}
 use Rattle.demands.proofs.Leaves.{of-tables, of-door, of-sound}
 use Rattle.demands.proofs.StepsSheet.{of-steps}
 use Rattle.demands.proofs.Texts.{of-text, of-run}
-use Rattle.demands.proofs.DemandTwo.{way-of, after-steps, is-event, decided, starts, tables-stay, run-tables-stay, alters, green-ordered, red-ordered, green-counts, red-counts}
+use Rattle.demands.proofs.DemandTwo.{way-of, after-steps, asks-after, is-event, decided, starts, tables-stay, run-tables-stay, alters, green-ordered, red-ordered, green-counts, red-counts}
 use Rattle.card_by_card.proofs.DemandThree as three
 use Rattle.card_by_card.proofs.Warden as warden
+use Rattle.card_by_card.proofs.Leaving as leaving
 use Rattle.demands.proofs.Accepted.{accepted-fresh}
 use Rattle.demands.proofs.Unique.{sheet-unique, text-unique, tables-unique, rules-unique, door-unique, sound-unique, record-unique, site-unique, steps-unique, run-unique, papers-unique}
 use Rattle.demands.proofs.Answered.{of-enums, enums-unique}
@@ -63,6 +70,7 @@ demand-2 =
       holds = accepted-holds limit;
       way-outside-of = way-of;
       way-outside = after-steps;
+      way-asked = asks-after;
       step = is-event;
       decision = decided;
       axioms = constants-obey;
@@ -96,6 +104,11 @@ put-by-passages s e rows = warden.put-by-passages (siteOf s .«record») (accept
 -- and a refused card moves nobody.
 pub refused-moves-nobody : (s : List ℕ) → siteOf s .verdict ≡ Accepted → (rows : List StepRow) → RefusedMovesNobody (siteOf s .«record») rows
 refused-moves-nobody s e rows = warden.refused-moves-nobody (siteOf s .«record») (accepted-fresh s e) rows
+
+-- "so everybody has a signed way outside which they may use": in every sound record whoever has no grant walks out by the free doors of
+-- that way, step by step.
+pub walks-out : (r : Record) → Shaped r → Sound r → (p : ℕ) → p < r .people → ((d : ℕ) → GrantAt (r .doors) (r .phase) (r .holder) p d → ⊥) → WalksOut r p
+walks-out = leaving.walks-out
 
 -- "Each public function says, for every input, its answer and every byte or field it was lent, refusals too. That two answers both
 -- allowed are equal is itself a theorem."

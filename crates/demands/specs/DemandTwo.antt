@@ -43,19 +43,22 @@ use Rattle.demands.specs.WholeRun.{runOf01, rowsHeard}
 
 -- ---- the way outside
 
--- "everybody has a signed way outside which they may use": person p of record r, from where they are, by the tables of record site
-pub record WayOutside (site r : Record) (p : ℕ) : Type 0 where
+-- the way out of location l by these exits, and the question for it
+pub record WayAsked (exit : List ℕ) (r : Record) (l : ℕ) : Type 0 where
   pub way : List ℕ
   -- "its exit followed by the way out of that exit, and nothing for location 0"
-  pub signed : Way (site .exit) (getD (r .place) p 0) way
-  -- to 0, through doors, by locations that they may be in
-  pub usable : SafeWay (planOf site) (site .right) p (getD (r .place) p 0) way
+  pub signed : Way exit l way
   -- "has at most 31 members"
   pub short : length way ≤ mostLocations - 1
   -- and it is what the question for the way out tells and writes into any list that has room for it
   pub told : (list : List ℕ) → length way ≤ length list
-      → (wayAnswerOf r (getD (r .place) p 0) list ≡ Length (length way))
-      × (wayWritten r (getD (r .place) p 0) list ≡ way ++ drop (length way) list)
+      → (wayAnswerOf r l list ≡ Length (length way)) × (wayWritten r l list ≡ way ++ drop (length way) list)
+
+-- "everybody has a signed way outside which they may use": person p of record r, from where they are
+pub record WayOutside (site r : Record) (p : ℕ) : Type 0 where
+  pub asked : WayAsked (site .exit) r (getD (r .place) p 0)
+  -- to 0, through doors, by locations that they may be in
+  pub usable : SafeWay (planOf site) (site .right) p (getD (r .place) p 0) (asked .way)
 
 -- ---- a step and its event
 
@@ -130,6 +133,9 @@ pub record DemandTwo : Type 1 where
   pub way-outside-of : (r : Record) → Shaped r → Sound r → (p : ℕ) → p < r .people → WayOutside r r p
   pub way-outside : (s : List ℕ) → siteOf s .verdict ≡ Accepted → (rows : List StepRow) (p : ℕ) → p < siteOf s .«record» .people
       → WayOutside (siteOf s .«record») (lastOf (siteOf s .«record») rows) p
+  -- and after any list of steps the question tells the way out of every location by the exits of the sheet's own record
+  pub way-asked : (s : List ℕ) → siteOf s .verdict ≡ Accepted → (rows : List StepRow) (l : ℕ) → l < siteOf s .«record» .locations
+      → WayAsked (siteOf s .«record» .exit) (lastOf (siteOf s .«record») rows) l
   -- "Each step does what the events of the location access chapter .. say: it acts exactly when it may,"
   pub step : (r : Record) → Shaped r → Sound r → (k : Kind) (d p : ℕ) → StepIsEvent r k d p
   -- "is green exactly when all three conditions hold, otherwise red with the first reason that applies."
