@@ -31,7 +31,7 @@ PARTS = {
     "sheet_files": ["Run"],
 }
 # What these tell comes from outside, so that they have no field (docs/DEMANDS.md).
-OUTSIDE = {"read_sheet", "number_asked"}
+OUTSIDE = {"read_sheet", "read_asked", "number_asked"}
 # What is said of every plan is said of each that `plan` puts together from its parts.
 PUT_TOGETHER = {"plan": "Plan"}
 

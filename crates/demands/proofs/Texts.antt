@@ -1,7 +1,7 @@
 -- Demand 1 for the crates `text` and `run`: a text in a lent list, and the two texts. Assumes nothing.
 use Prim.Native.Nat.{ℕ, _+_, _≤_, _<_}
 use mathlib.Core.Path.{_≡_, refl, sym, ap, _∙_}
-use mathlib.Core.Bool.{Bool, true, false, true≢false}
+use mathlib.Core.Bool.{Bool, true, false, true≢false, cond}
 use mathlib.Core.List.{List, [], _∷_, _++_}
 use mathlib.Core.Logic.{inl, inr}
 use native.Mathlib.Omega.{arith}
@@ -176,12 +176,16 @@ blank-long n = length-replicate {A = ℕ} n 0
 in-blank : {most : ℕ} (text : List ℕ) → length text ≤ most → printedOf text (replicate most 0) ≡ Text (length text)
 in-blank {most} text h = let l = blank-long most in defined text (replicate most 0) .a-length (omega arith)
 
+no-more-written : (list : List ℕ) (n : ℕ) → cond (leb n (length list)) n 0 ≤ length list
+no-more-written list n = either (λ (m : ℕ). m ≤ length list) (leb n (length list)) (λ h. leb-true n (length list) h) (λ _. omega arith)
+
 pub of-run : RunAnswers
 of-run =
     record {
       panel-text = λ site steps out told after w. text-tells w;
       where-text = λ site steps out told after w. text-tells w;
       blank-sheet = λ s h. let l = blank-long (limit + 1) in omega arith;
+      write-text = no-more-written;
       panel-fits = panel-fits;
       where-fits = where-fits;
       blank-panel-text = λ site steps. in-blank (panelText site steps) (panel-fits site steps);

@@ -136,6 +136,7 @@ run-unique =
     record {
       panel-text = λ site steps out. one-printed;
       where-text = λ site steps out. one-printed;
+      write-text = λ list n. alone;
       blank-sheet = alone;
       blank-panel-text = alone;
       blank-where-text = alone;

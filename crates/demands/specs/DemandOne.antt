@@ -4,12 +4,12 @@
 -- is told exactly.
 use Prim.Native.Nat.{ℕ, _+_, _-_, _^_, _≤_, _<_}
 use mathlib.Core.Path.{_≡_}
-use mathlib.Core.Bool.{Bool, true, false}
+use mathlib.Core.Bool.{Bool, true, false, cond}
 use mathlib.Core.List.{List, [], _∷_, _++_, map}
 use mathlib.Core.Logic.{_⊎_, _↔_}
 use lib.ListN.{length, getD, set, take, drop, replicate}
 use lib.Seq.{sets}
-use lib.Dec.{ltb}
+use lib.Dec.{ltb, leb}
 use denote.Ref.{RefT, now}
 use Rattle.numbers.specs.Numbers.{doneNo, tooLongNo, noSiteNo, noRightNo, shutOutNo, noSuchNo, notAllowedNo, tooShortNo, unsoundNo}
 use Rattle.sheet.specs.declared.reader.Reader.{Reader}
@@ -381,6 +381,8 @@ pub record RunAnswers : Type 0 where
       → TextTells (whereText site steps) out told after
   -- the list for a sheet has a byte more than a sheet may have, so that a longer file is seen to be longer
   pub blank-sheet : (s : List ℕ) → length s ≤ limit → length s < length {A = ℕ} (replicate (limit + 1) 0)
+  -- no more is written than the list has
+  pub write-text : (list : List ℕ) (n : ℕ) → cond (leb n (length list)) n 0 ≤ length list
   -- no text is too long for the lists that the programs lend,
   pub panel-fits : (site steps : List ℕ) → length (panelText site steps) ≤ mostPanelText
   pub where-fits : (site steps : List ℕ) → length (whereText site steps) ≤ mostWhereText

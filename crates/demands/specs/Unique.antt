@@ -3,10 +3,10 @@
 -- function's `ensures`.
 use Prim.Native.Nat.{ℕ, _+_}
 use mathlib.Core.Path.{_≡_}
-use mathlib.Core.Bool.{Bool}
+use mathlib.Core.Bool.{Bool, cond}
 use mathlib.Core.List.{List, [], _∷_}
 use lib.ListN.{length, getD, set, replicate}
-use lib.Dec.{ltb}
+use lib.Dec.{ltb, leb}
 use denote.Ref.{RefT, now}
 use Rattle.sheet.specs.declared.reader.Reader.{Reader}
 use Rattle.grammar.specs.declared.cut.Cell.{Cell}
@@ -205,6 +205,7 @@ pub record RunUnique : Type 0 where
       → Unique (λ (x : Printed × List ℕ). Prints (panelText site steps) out (x .0) (x .1))
   pub where-text : (site steps out : List ℕ)
       → Unique (λ (x : Printed × List ℕ). Prints (whereText site steps) out (x .0) (x .1))
+  pub write-text : (list : List ℕ) (n : ℕ) → Unique (λ (x : ℕ). x ≡ cond (leb n (length list)) n 0)
   pub blank-sheet : Unique (λ (x : List ℕ). x ≡ replicate (limit + 1) 0)
   pub blank-panel-text : Unique (λ (x : List ℕ). x ≡ replicate mostPanelText 0)
   pub blank-where-text : Unique (λ (x : List ℕ). x ≡ replicate mostWhereText 0)

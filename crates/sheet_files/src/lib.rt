@@ -2,7 +2,9 @@
 // goes wrong is said on standard error.
 ghost use Prim.Native.Nat.{_+_};
 ghost use mathlib.Core.Path.{_≡_};
-ghost use lib.ListN.{replicate};
+ghost use mathlib.Core.Bool.{cond};
+ghost use lib.ListN.{length, replicate};
+ghost use lib.Dec.{leb};
 ghost use Rattle.grammar.specs.Sizes.{limit};
 ghost use Rattle.sheet_files.specs.{Asked};
 ghost use Rattle.io.specs.Counts.{Counts};
@@ -67,14 +69,18 @@ pub fn read_asked<'a>(place: usize, otherwise: &'a [u8], sheet: &'a mut [u8]) ->
     read_sheet(&name[..length], sheet)
 }
 
-// Writes the text that stands at the front of a list; where a write fails, that is said on standard error.
-pub fn write_text(list: &[u8], length: usize) {
-    if list.len() < length {
-        return;
+// Writes the text that stands at the front of a list, and tells of how many bytes that is: none where the list is shorter.
+// Where a write fails, that is said on standard error.
+pub fn write_text(list: &[u8], count: usize) -> usize
+    ensures { λ r. ⌜ r ≡ cond (leb count (length (now (list .entry)))) count 0 ⌝ }
+{
+    if list.len() < count {
+        return 0;
     }
-    if !io::write_all(libc::STDOUT_FILENO, &list[0..length]) {
+    if !io::write_all(libc::STDOUT_FILENO, &list[0..count]) {
         os::fail(b"standard output");
     }
+    count
 }
 
 // The number that the program's argument says, or what is to be taken without one.
