@@ -4,6 +4,7 @@ use mathlib.Core.Path.{_≡_}
 use mathlib.Core.Bool.{cond}
 use mathlib.Core.List.{List, [], _∷_, _++_}
 use lib.Dec.{eqb}
+use Rattle.numbers.specs.Numbers.{doneNo}
 use Rattle.tables.specs.Tables.{andAlso}
 use Rattle.record.specs.declared.record.Record.{Record}
 use Rattle.phases.specs.declared.table.Kind.the-variants.{Decide}
@@ -13,8 +14,8 @@ use Rattle.phases.specs.Phase.{granted, denied}
 use Rattle.door.specs.Door.{freeDoor}
 use Rattle.record.specs.Doors.{planOf, doorOf, freshRecord, Shaped}
 use Rattle.record.specs.Sound.{Sound}
-use Rattle.phases.specs.Kinds.{StepRow, namesPerson}
-use Rattle.record.specs.Run.{rowOf, lastOf}
+use Rattle.phases.specs.Kinds.{StepRow, numberOfKind, namesPerson}
+use Rattle.record.specs.Run.{Reply, replyBy, rowOf, lastOf}
 use Rattle.run_events.specs.Lines.{Line, heardOf}
 use Rattle.run_events.specs.Events.{What, Denial, Passage, Lapse, RunEvent, noSpells, spellsIn}
 use Rattle.run_events.specs.Told.{Standing, Free, CardOf, GrantOf, Ended, standing, standingAt, TellsTruly}
@@ -52,19 +53,34 @@ pub data Decides : Record → List RunEvent → Type 0 where
 abbrev pub servedIn : Record → List StepRow → Record
 servedIn fresh rows = lastOf fresh (services (recordedIn fresh rows))
 
--- the persons whose cards were taken at door d, in order: "a `card` answered 11 or 12 was never taken"
-unfoldable pub takenBy : ℕ → Line → List ℕ
-takenBy d line =
-    cond (andAlso (namesPerson (line .row .kind)) (andAlso (eqb (line .reply .answer) 0) (eqb d (line .row .at)))) (line .row .person ∷ []) []
+-- ---- the account of one door
 
-unfoldable pub takenAt : ℕ → List Line → List ℕ
-takenAt d [] = []
-takenAt d (line ∷ lines) = takenBy d line ++ takenAt d lines
+-- what the lines of door d that were done say, in order
+unfoldable pub doneBy : {A : Type 0} → (Line → List A) → ℕ → Line → List A
+doneBy say d line = cond (andAlso (eqb (line .reply .answer) doneNo) (eqb d (line .row .at))) (say line) []
+
+unfoldable pub doneAt : {A : Type 0} → (Line → List A) → ℕ → List Line → List A
+doneAt say d [] = []
+doneAt say d (line ∷ lines) = doneBy say d line ++ doneAt say d lines
+
+-- what the events of door d say, in order
+unfoldable pub eventsAt : {A : Type 0} → (RunEvent → List A) → ℕ → List RunEvent → List A
+eventsAt say d [] = []
+eventsAt say d (e ∷ es) = cond (eqb d (e .at)) (say e) [] ++ eventsAt say d es
+
+-- the persons whose cards were taken at door d, in order: "a `card` answered 11 or 12 was never taken"
+unfoldable pub takenBy : Line → List ℕ
+takenBy line = cond (namesPerson (line .row .kind)) (line .row .person ∷ []) []
+
+abbrev pub takenAt : ℕ → List Line → List ℕ
+takenAt d lines = doneAt takenBy d lines
 
 -- the persons of the events of door d, in order
-unfoldable pub servedAt : ℕ → List RunEvent → List ℕ
-servedAt d [] = []
-servedAt d (e ∷ es) = cond (eqb d (e .at)) (e .person ∷ []) [] ++ servedAt d es
+abbrev pub personOf : RunEvent → List ℕ
+personOf e = e .person ∷ []
+
+abbrev pub servedAt : ℕ → List RunEvent → List ℕ
+servedAt d es = eventsAt personOf d es
 
 -- "A card not decided, or a grant not ended": the person of a card that is open, if one is
 unfoldable pub openOf : Standing → List ℕ
@@ -72,6 +88,38 @@ openOf Free = []
 openOf (CardOf person) = person ∷ []
 openOf (GrantOf person) = person ∷ []
 openOf Ended = []
+
+-- the decisions told at door d, in order: what each `decide` that was done answered
+unfoldable pub decisionBy : Line → List Reply
+decisionBy line = cond (eqb (numberOfKind (line .row .kind)) (numberOfKind Decide)) (line .reply ∷ []) []
+
+abbrev pub decidedAt : ℕ → List Line → List Reply
+decidedAt d lines = doneAt decisionBy d lines
+
+-- the decisions with which the cards of door d are served, in order: what the `decide` of each service answers
+unfoldable pub decisionsAt : ℕ → Record → List RunEvent → List Reply
+decisionsAt d r [] = []
+decisionsAt d r (e ∷ es) = cond (eqb d (e .at)) (replyBy (decideOf r e) ∷ []) [] ++ decisionsAt d (lastOf r (serviceOf e)) es
+
+-- granted, and denied for a reason
+abbrev pub grantedReply : Reply
+grantedReply = record { answer = doneNo; phase = granted; reason = 0 }
+
+abbrev pub deniedReply : ℕ → Reply
+deniedReply why = record { answer = doneNo; phase = denied; reason = why }
+
+-- "a grant not ended, isn't served": the decision of a grant that is open, if one is
+unfoldable pub grantOpen : Standing → List Reply
+grantOpen Free = []
+grantOpen (CardOf person) = []
+grantOpen (GrantOf person) = grantedReply ∷ []
+grantOpen Ended = []
+
+-- decisions that are the same one by one, but for reason 3, which is granted
+pub data Alike : List Reply → List Reply → Type 0 where
+  end : Alike [] []
+  same : {x : Reply} {xs ys : List Reply} → (x .reason ≡ 3 → ⊥) → Alike xs ys → Alike (x ∷ xs) (x ∷ ys)
+  unused : {xs ys : List Reply} → Alike xs ys → Alike (deniedReply 3 ∷ xs) (grantedReply ∷ ys)
 
 -- Demand 3, of a fresh record and a list of steps, of any kinds and numbers, acting or refused
 pub record DemandThree (fresh : Record) (rows : List StepRow) : Type 0 where
@@ -89,3 +137,6 @@ pub record DemandThree (fresh : Record) (rows : List StepRow) : Type 0 where
   pub open-at-end : (d : ℕ) → standing (spellsIn fresh rows d) ≡ standingAt (doorOf (lastOf fresh rows) d)
   -- "A card not decided, or a grant not ended, isn't served": of the cards taken at a door, in order, all are served but the one open
   pub unserved : (d : ℕ) → takenAt d (heardOf fresh rows) ≡ servedAt d (recordedIn fresh rows) ++ openOf (standing (spellsIn fresh rows d))
+  -- and of the cards decided at a door, in order, each got the decision and the reason with which it is served, but for reason 3; only
+  -- a grant that is open isn't served
+  pub decided : (d : ℕ) → Alike (decidedAt d (heardOf fresh rows)) (decisionsAt d fresh (recordedIn fresh rows) ++ grantOpen (standing (spellsIn fresh rows d)))

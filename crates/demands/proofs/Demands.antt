@@ -3,6 +3,7 @@
 --     demand-1          `specs/DemandOne.antt`
 --     demand-2          `specs/DemandTwo.antt`
 --     demand-3          `specs/Served.antt`, by `specs/Serving.antt`
+--     demand-3-printed  `specs/Bytes.antt`
 --     put-by-passages, refused-moves-nobody         `specs/Warden.antt`
 --     walks-out         `specs/Leaving.antt`
 --     answers-unique    `specs/Unique.antt`
@@ -19,11 +20,13 @@ use Rattle.phases.specs.Kinds.{StepRow}
 use Rattle.verdict.specs.declared.Verdict.the-variants.{Accepted}
 use Rattle.grammar.specs.Sizes.{limit}
 use Rattle.site_sheet.specs.Site.{siteOf}
+use Rattle.steps_sheet.specs.Says.{Steps, SheetSays}
 use Rattle.site_sheet.proofs.Theorems.{accepted-exactly, accepted-holds}
 use Rattle.chapter.proofs.Theorems.{constants-obey, the-chapter, invariants-hold, panel-runs, one-move-a-row, no-door-stuck}
 use Rattle.demands.specs.DemandOne.{DemandOne}
 use Rattle.demands.specs.DemandTwo.{DemandTwo}
 use Rattle.card_by_card.specs.Served.{DemandThree}
+use Rattle.demands.specs.Bytes.{PrintedAsServed}
 use Rattle.card_by_card.specs.Warden.{PutByPassages, RefusedMovesNobody}
 use Rattle.card_by_card.specs.Leaving.{WalksOut}
 use Rattle.demands.specs.Unique.{AnswersUnique}
@@ -33,6 +36,7 @@ use Rattle.demands.proofs.Leaves.{of-tables, of-door, of-sound}
 use Rattle.demands.proofs.StepsSheet.{of-steps}
 use Rattle.demands.proofs.Texts.{of-text, of-run}
 use Rattle.demands.proofs.DemandTwo.{way-of, after-steps, asks-after, is-event, decided, starts, tables-stay, run-tables-stay, alters, green-ordered, red-ordered, green-counts, red-counts}
+use Rattle.demands.proofs.Bytes.{printed-as-served}
 use Rattle.card_by_card.proofs.DemandThree as three
 use Rattle.card_by_card.proofs.Warden as warden
 use Rattle.card_by_card.proofs.Leaving as leaving
@@ -96,6 +100,11 @@ demand-2 =
 -- another open grant is then granted and not used)."
 pub demand-3 : (s : List ℕ) → siteOf s .verdict ≡ Accepted → (rows : List StepRow) → DemandThree (siteOf s .«record») rows
 demand-3 s e rows = three.demand-3 (siteOf s .«record») (accepted-fresh s e) rows
+
+-- Down to the bytes: what the two programs print of an accepted site sheet and a steps sheet that is read is what the serving gives.
+pub demand-3-printed : (site : List ℕ) → siteOf site .verdict ≡ Accepted → (steps : List ℕ) (said : Steps) → SheetSays limit steps said
+    → PrintedAsServed site steps said
+demand-3-printed = printed-as-served
 
 -- So no order or lateness of messages puts a person where no recorded passage put them,
 pub put-by-passages : (s : List ℕ) → siteOf s .verdict ≡ Accepted → (rows : List StepRow) → PutByPassages (siteOf s .«record») rows

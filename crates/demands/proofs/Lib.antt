@@ -4,6 +4,7 @@
 --     Leaves                         demand 1 of the functions on which the record stands
 --     StepsSheet                     demand 1 of the functions over a steps sheet
 --     Accepted                       the record of an accepted site sheet is fresh
+--     Bytes                          demand 3 down to the bytes
 --     TwelveCases                    the paper's cases, and the run that it prints
 --     Example                        what is recorded on that run, and why it is served in that order
 --     Fits, Texts                    no text is too long for the programs' lists
@@ -18,4 +19,5 @@ pub mod Fits
 pub mod DemandOne
 pub mod Texts
 pub mod DemandTwo
+pub mod Bytes
 pub mod Demands

@@ -31,7 +31,7 @@ use Rattle.run_events.proofs.Doors.{doneReply, Follows, follows}
 abbrev pub lineOf : StepRow → Step → Line
 lineOf row s = record { row = row; reply = replyBy s }
 
-act-reply : (r : Record) (d : ℕ) (x : Does) → replyBy (act r d x) ≡ doneReply (doorOf r d) x
+pub act-reply : (r : Record) (d : ℕ) (x : Does) → replyBy (act r d x) ≡ doneReply (doorOf r d) x
 unfolding act
 act-reply r d Stays = refl
 act-reply r d (Turns c why) = refl

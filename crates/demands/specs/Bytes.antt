@@ -1,0 +1,31 @@
+-- Demand 3 down to the bytes: what `panel` and `where` print of two sheets, beside the serving of the same run card by card.
+use Prim.Native.Nat.{ℕ}
+use mathlib.Core.Path.{_≡_}
+use mathlib.Core.List.{List, _++_, map}
+use Rattle.record.specs.Run.{Reply}
+use Rattle.site_sheet.specs.Site.{siteOf}
+use Rattle.steps_sheet.specs.Says.{Steps}
+use Rattle.run_text.specs.Printed.{runText, panelText, recordText, whereText}
+use Rattle.run_events.specs.Lines.{Line, heardOf}
+use Rattle.run_events.specs.Events.{noSpells, spellsOf, eventsOf}
+use Rattle.run_events.specs.Told.{standing}
+use Rattle.card_by_card.specs.Serving.{recorded}
+use Rattle.card_by_card.specs.Served.{decidedAt, decisionsAt, grantOpen, Alike, servedIn}
+
+-- the steps that a steps sheet says, each with what it answered from the fresh record of a site sheet
+abbrev pub heardIn : List ℕ → Steps → List Line
+heardIn site said = heardOf (siteOf site .«record») (said .rows)
+
+abbrev pub replyIn : Line → Reply
+replyIn line = line .reply
+
+-- of a site sheet, a steps sheet and the steps that it says
+pub record PrintedAsServed (site steps : List ℕ) (said : Steps) : Type 0 where
+  -- `panel` prints "a row for each data row": the answer, the phase and the reason of each line, in order;
+  pub panel : panelText site steps ≡ runText (map replyIn (heardIn site said)) (said .whole)
+  -- of the lines of a door that are a `decide` answered 0, in order, each has the decision and the reason with which its card is served
+  -- from the fresh record, but for reason 3; only a grant that is open at the end isn't served; what is served is made of these lines alone;
+  pub decided : (d : ℕ) → Alike (decidedAt d (heardIn site said))
+      (decisionsAt d (siteOf site .«record») (recorded (eventsOf noSpells 1 (heardIn site said))) ++ grantOpen (standing (spellsOf noSpells 1 (heardIn site said) d)))
+  -- and what `where` prints is what the served record prints
+  pub places : whereText site steps ≡ recordText (servedIn (siteOf site .«record») (said .rows))
