@@ -69,13 +69,16 @@ pub fn read_asked<'a>(place: usize, otherwise: &'a [u8], sheet: &'a mut [u8]) ->
     read_sheet(&name[..length], sheet)
 }
 
+// So many bytes are written where a text has more than its list.
+const NOTHING: usize = 0;
+
 // Writes the text that stands at the front of a list, and tells of how many bytes that is: none where the list is shorter.
 // Where a write fails, that is said on standard error.
 pub fn write_text(list: &[u8], count: usize) -> usize
     ensures { λ r. ⌜ r ≡ cond (leb count (length (now (list .entry)))) count 0 ⌝ }
 {
     if list.len() < count {
-        return 0;
+        return NOTHING;
     }
     if !io::write_all(libc::STDOUT_FILENO, &list[0..count]) {
         os::fail(b"standard output");
