@@ -6,7 +6,7 @@ use mathlib.Core.List.{List, [], _∷_, map}
 use mathlib.Core.Logic.{_⊎_, _↔_, inl, inr, ⊎-elim}
 use native.Mathlib.Nat.{add-sub-of-le}
 use native.Mathlib.Omega.{arith}
-use borrow.Author.Tests.{eqb-true, ne-eqb, le-ltb, ltb-true, ltb-false, lt-ltb, le-leb, lt-leb, leb-true}
+use borrow.Author.Tests.{eqb-true, eq-eqb, ne-eqb, le-ltb, ltb-true, ltb-false, lt-ltb, le-leb, lt-leb, leb-true}
 use denote.Ref.{now}
 use lib.ListN.{length, getD, drop, length-drop, length-append}
 use lib.Seq.{sets}
@@ -37,7 +37,7 @@ use Rattle.tables.specs.declared.RightFound.{RightFound}
 use Rattle.tables.specs.declared.RightFound.the-variants as pair
 use Rattle.tables.specs.Tests.{firstNoExit, strays, firstStray, firstNoDoor, firstNoRight, firstShutOut, countsFit, planInRange, lawfulB}
 use Rattle.tables.specs.Way.{wayOf, ifRoom, wayToldIn, wayWrittenIn}
-use Rattle.tables.proofs.Laws.{and-left, and-right, and-both, clash, least-at, may-be-outside, tell-eq, tell-le, tell-and, tell-as}
+use Rattle.tables.proofs.Laws.{and-left, and-right, and-both, clash, least-at, tell-eq, tell-le, tell-and, tell-as}
 use Rattle.tables.proofs.Answers.{in-range-tells, rule-6, rule-7, rule-8, rule-9, rule-10, lawful-tells}
 use Rattle.tables.proofs.WayOut.{way-at-most}
 use Rattle.record.specs.declared.record.Record.{Record}
@@ -53,6 +53,7 @@ use Rattle.granting.specs.Grants.{grantOf}
 use Rattle.phases.specs.Kinds.{StepRow, kindOf, allows, namesPerson}
 use Rattle.soundness.specs.SoundTest.{listsSound}
 use Rattle.record.specs.SoundTest.{soundB}
+use Rattle.record.specs.Sound.{rightAt}
 use Rattle.door.specs.declared.does.Does.{Does}
 use Rattle.door.specs.declared.does.Does.the-variants.{Stays, Turns, Moves}
 use Rattle.door.specs.Does.{effect}
@@ -226,15 +227,30 @@ way-tells way list most =
     }
 
 -- past the last location no right is read
-no-right-past : (right : List Bool) (p l : ℕ) → mostLocations ≤ l → mayBe right p l ≡ false
+pub no-right-past : (right : List Bool) (p l : ℕ) → mostLocations ≤ l → mayBe right p l ≡ false
 unfolding mayBe orElse andAlso
 no-right-past right p l h = rw (ne-eqb l 0 (λ e. omega arith), le-ltb l mostLocations h)
+
+may-be-tells : (right : List Bool) (p l : ℕ) → Tells (mayBe right p l) ((l ≡ 0) ⊎ ((l < mostLocations) × (rightAt right p l ≡ true)))
+unfolding mayBe orElse andAlso
+may-be-tells right p l = go (eqb l 0) refl (ltb l mostLocations) refl
+  where
+    go : (a : Bool) → eqb l 0 ≡ a → (b : Bool) → ltb l mostLocations ≡ b
+        → Tells (orElse a (andAlso b (rightAt right p l))) ((l ≡ 0) ⊎ ((l < mostLocations) × (rightAt right p l ≡ true)))
+    go true a b _ = record { yes = λ _. inl (eqb-true l 0 a); back = λ _. refl }
+    go false a true b =
+        record { yes = λ e. inr (ltb-true l mostLocations b, e); back = ⊎-elim (λ is. clash (eq-eqb l 0 is) a) (λ has. has .1) }
+    go false a false b =
+        record {
+          yes = λ e. absurd (false≢true e);
+          back = ⊎-elim (λ is. clash (eq-eqb l 0 is) a) (λ has. clash (lt-ltb l mostLocations (has .0)) b);
+        }
 
 pub of-rules : RulesAnswers
 unfolding firstStray
 of-rules =
     record {
-      may-be = λ right p l. (may-be-outside right p, no-right-past right p l);
+      may-be = may-be-tells;
       in-range = in-range-tells;
       first-no-exit = rule-6;
       first-stray = λ locations exit. ((λ l e. least-at (strays locations exit) locations l e .0), rule-7 locations exit);

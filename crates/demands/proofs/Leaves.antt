@@ -1,13 +1,13 @@
 -- Demand 1 of the functions on which the record stands: those of lent lists, of one door, and of soundness. Assumes nothing.
-use Prim.Native.Nat.{ℕ, _-_, _≤_, _<_}
+use Prim.Native.Nat.{ℕ, _+_, _-_, _≤_, _<_}
 use mathlib.Core.Path.{_≡_, refl, ap, subst}
-use mathlib.Core.Bool.{Bool, true, false, false≢true}
+use mathlib.Core.Bool.{Bool, true, false, cond, false≢true}
 use mathlib.Core.List.{List, [], _∷_}
 use mathlib.Core.Logic.{_↔_, inl, inr}
 use native.Mathlib.Omega.{arith}
 use borrow.Author.Tests.{ne-eqb, eqb-false}
 use lib.ListN.{length, getD, set, length-set, List·getD-eq-default}
-use lib.Seq.{set-out}
+use lib.Seq.{set-out, getD-set-same, getD-set-other}
 use lib.Dec.{eqb, ltb}
 use Rattle.tables.specs.Tables.{Plan, mayBe, orElse, andAlso}
 use Rattle.tables.specs.Below.{Tells}
@@ -39,7 +39,7 @@ use Rattle.record.specs.Steps.{First}
 use Rattle.record.specs.Deeds.{recordOf}
 use Rattle.record.proofs.Tells.{tell-fields, sound-tells}
 use Rattle.record.proofs.Right.{reason-first, reason-only}
-use Rattle.demands.specs.DemandOne.{TablesAnswers, DoesTold, DoorFits, DoorAnswers, SoundAnswers}
+use Rattle.demands.specs.DemandOne.{PutTells, TablesAnswers, DoesTold, DoorFits, DoorAnswers, SoundAnswers}
 use Rattle.demands.specs.Telling.{OneOf}
 
 -- ---- lent lists
@@ -47,8 +47,14 @@ use Rattle.demands.specs.Telling.{OneOf}
 past-end : (list : List ℕ) (at : ℕ) → length list ≤ at → getD list at 0 ≡ 0
 past-end list at h = List·getD-eq-default list 0 h
 
-put-there : (list : List ℕ) (at n : ℕ) → (length (set list at n) ≡ length list) × (length list ≤ at → set list at n ≡ list)
-put-there list at n = (length-set list at n, λ h. set-out list at n h)
+put-there : (list : List ℕ) (at n : ℕ) → PutTells list at n
+put-there list at n =
+    record {
+      as-long = length-set list at n;
+      there = getD-set-same list at n 0;
+      others = λ i other. getD-set-other list at i n 0 other;
+      past = λ h. set-out list at n h;
+    }
 
 pub of-tables : TablesAnswers
 of-tables = record { byte-at = past-end; word-at = past-end; put-byte = put-there; put-word = put-there }
@@ -67,6 +73,28 @@ unfolding kindOf
 no-step n h =
     let other : (k : ℕ) → k < 10 → eqb n k ≡ false = λ k low. ne-eqb n k (λ e. omega arith) in
     rw (other 0 (omega arith), other 1 (omega arith), other 2 (omega arith), other 3 (omega arith), other 4 (omega arith), other 5 (omega arith), other 6 (omega arith), other 7 (omega arith), other 8 (omega arith), other 9 (omega arith))
+
+-- and a number before that names one: where it isn't the next, it is past it
+another : (n k : ℕ) (named : Kind) {rest : Kind} → (numberOfKind named ≡ numberOfKind Unknown → ⊥) → k ≤ n
+    → (k + 1 ≤ n → rest ≡ Unknown → numberOfKind Unknown ≤ n) → cond (eqb n k) named rest ≡ Unknown → numberOfKind Unknown ≤ n
+another n k named other low on =
+    either (λ (x : Kind). x ≡ Unknown → numberOfKind Unknown ≤ n) (eqb n k) (λ _ e. absurd (other (ap numberOfKind e)))
+    (λ no. let is-not = eqb-false n k no in on (omega arith))
+
+some-step : (n : ℕ) → kindOf n ≡ Unknown → numberOfKind Unknown ≤ n
+unfolding kindOf
+some-step n =
+    another n 0 Card (λ z. omega arith) (omega arith)
+    (λ low. another n 1 Decide (λ z. omega arith) low
+    (λ low. another n 2 Green (λ z. omega arith) low
+    (λ low. another n 3 Red (λ z. omega arith) low
+    (λ low. another n 4 Walk (λ z. omega arith) low
+    (λ low. another n 5 Tick (λ z. omega arith) low
+    (λ low. another n 6 Passed (λ z. omega arith) low
+    (λ low. another n 7 Lapsed (λ z. omega arith) low
+    (λ low. another n 8 Dark (λ z. omega arith) low
+    (λ low. another n 9 Ack (λ z. omega arith) low
+    (λ high _. high))))))))))
 
 far-free : (phase holder count : List ℕ) (d : ℕ) → length phase ≤ d → length holder ≤ d → length count ≤ d → doorIn phase holder count d ≡ freeDoor
 far-free phase holder count d a b c = rw (past-end phase d a, past-end holder d b, past-end count d c)
@@ -113,7 +141,7 @@ unfolding grants
 of-door =
     record {
       answer-number = a-number;
-      kind-of = no-step;
+      kind-of = λ n. (some-step n, no-step n);
       kind-number = kind-back;
       allowed-in = table-allows;
       grants = λ phase. tell-and (tell-le granted phase) (tell-le phase expired);

@@ -59,7 +59,7 @@ use Rattle.granting.specs.Reasons.{firstReason}
 use Rattle.soundness.specs.SoundTest.{listsSound}
 use Rattle.phases.specs.Kinds.{StepRow, kindOf, numberOfKind, allows, namesPerson}
 use Rattle.phases.specs.Table.{asked}
-use Rattle.record.specs.Sound.{ZeroBeyond, Sound}
+use Rattle.record.specs.Sound.{rightAt, ZeroBeyond, Sound}
 use Rattle.record.specs.SoundTest.{soundB}
 use Rattle.record.specs.Steps.{First, stepOf}
 use Rattle.record.specs.Deeds.{recordOf, telling}
@@ -161,12 +161,19 @@ pub record TextAnswers : Type 0 where
 
 -- ---- crate `tables`
 
--- past a list's end 0 is read, and nothing is written
+-- a number put at a place of a list: it stands there, all else is as it was, and past the list's end nothing is written
+pub record PutTells (list : List ℕ) (at n : ℕ) : Type 0 where
+  pub as-long : length (set list at n) ≡ length list
+  pub there : at < length list → getD (set list at n) at 0 ≡ n
+  pub others : (i : ℕ) → (i ≡ at → ⊥) → getD (set list at n) i 0 ≡ getD list i 0
+  pub past : length list ≤ at → set list at n ≡ list
+
+-- past a list's end 0 is read
 pub record TablesAnswers : Type 0 where
   pub byte-at : (list : List ℕ) (at : ℕ) → length list ≤ at → getD list at 0 ≡ 0
   pub word-at : (list : List ℕ) (at : ℕ) → length list ≤ at → getD list at 0 ≡ 0
-  pub put-byte : (list : List ℕ) (at n : ℕ) → (length (set list at n) ≡ length list) × (length list ≤ at → set list at n ≡ list)
-  pub put-word : (list : List ℕ) (at n : ℕ) → (length (set list at n) ≡ length list) × (length list ≤ at → set list at n ≡ list)
+  pub put-byte : (list : List ℕ) (at n : ℕ) → PutTells list at n
+  pub put-word : (list : List ℕ) (at n : ℕ) → PutTells list at n
 
 -- ---- crate `rules`
 
@@ -178,8 +185,8 @@ pub record WayTells (way list : List ℕ) : Type 0 where
 
 -- a test tells its rule, and a search answers none exactly when the rule holds, and else its smallest offender (`Answers` of `tables`)
 pub record RulesAnswers : Type 0 where
-  -- "Location 0 is everybody's", and no right is read for a location past the last
-  pub may-be : (right : List Bool) (p l : ℕ) → (mayBe right p 0 ≡ true) × (mostLocations ≤ l → mayBe right p l ≡ false)
+  -- "person p may be in l .. Location 0 is everybody's": else the right stands in the table, which ends at the last location
+  pub may-be : (right : List Bool) (p l : ℕ) → Tells (mayBe right p l) ((l ≡ 0) ⊎ ((l < mostLocations) × (rightAt right p l ≡ true)))
   pub in-range : (most : ℕ) (site : Plan) → Tells (planInRange most site) (PlanInRange most site)
   pub first-no-exit : (locations : ℕ) (given : List Bool) → Answers (firstNoExit locations given) (λ l. 1 ≤ l → getD given l false ≡ true) locations
   -- so where the exits are in range; elsewhere too a location that is told is there
@@ -215,8 +222,8 @@ pub record DoorFits (people : ℕ) (c : Door) : Type 0 where
 pub record DoorAnswers : Type 0 where
   -- the table's numbers of steps and questions
   pub answer-number : (a : Answer) → OneOf (doneNo ∷ noSuchNo ∷ notAllowedNo ∷ tooShortNo ∷ unsoundNo ∷ []) (answerNo a)
-  -- a number past 9 names no step, and no phase allows that
-  pub kind-of : (n : ℕ) → 10 ≤ n → kindOf n ≡ Unknown
+  -- the numbers past those of the ten steps, and they alone, name no step; no phase allows that
+  pub kind-of : (n : ℕ) → (kindOf n ≡ Unknown) ↔ (numberOfKind Unknown ≤ n)
   -- the number of a step names it
   pub kind-number : (k : Kind) → kindOf (numberOfKind k) ≡ k
   -- "one fixed table, a hundred entries": at the ten phases it says what the steps' own rules say
