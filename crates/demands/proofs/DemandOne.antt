@@ -1,12 +1,12 @@
 -- The parts of demand 1, crate by crate; what they say is in `specs/DemandOne.antt`. Assumes nothing.
 use Prim.Native.Nat.{ℕ, zero, suc, _+_, _-_, _≤_, _<_}
-use mathlib.Core.Path.{_≡_, refl, sym, ap, _∙_}
+use mathlib.Core.Path.{_≡_, refl, sym, ap, subst, _∙_}
 use mathlib.Core.Bool.{Bool, true, false, not, cond, false≢true}
 use mathlib.Core.List.{List, [], _∷_, map}
-use mathlib.Core.Logic.{_⊎_, inl, inr, ⊎-elim}
+use mathlib.Core.Logic.{_⊎_, _↔_, inl, inr, ⊎-elim}
 use native.Mathlib.Nat.{add-sub-of-le}
 use native.Mathlib.Omega.{arith}
-use borrow.Author.Tests.{eqb-true, ne-eqb, le-ltb, ltb-true, ltb-false, lt-ltb, le-leb, lt-leb, leb-true}
+use borrow.Author.Tests.{eqb-true, eq-eqb, ne-eqb, le-ltb, ltb-true, ltb-false, lt-ltb, le-leb, lt-leb, leb-true}
 use denote.Ref.{now}
 use lib.ListN.{length, getD, drop, length-drop, length-append}
 use lib.Seq.{sets}
@@ -22,11 +22,12 @@ use Rattle.grammar.specs.Grammar.{Field, bare, quoted, fieldText, comma, cr, lf
 use Rattle.grammar.specs.Cut.{emptyAt, cutField, cutRow}
 use Rattle.grammar.specs.Where.{cellOf, CellHolds}
 use Rattle.grammar.specs.Rows.{onRow, readRows, rowsFrom, countFrom, countRows}
-use Rattle.grammar.specs.Say.{contentAt, sameBytes, isWord, saysWords}
+use Rattle.grammar.specs.declared.say.Number.the-variants.{Is, None}
+use Rattle.grammar.specs.Say.{ProperNumber, contentAt, sameBytes, isWord, saysWords, numberIn, numberAt}
 use Rattle.grammar.proofs.Steps.{FieldIn, field-in, cut-within}
 use Rattle.grammar.proofs.Found.{FieldFound, with-crlf, with-sheet}
 use Rattle.grammar.proofs.Reading.{cut-behind, cut-there}
-use Rattle.grammar.proofs.Saying.{same-true, number-small}
+use Rattle.grammar.proofs.Saying.{same-self, same-true, proper-read, read-proper, clash as no-number}
 use Rattle.grammar.proofs.Theorems.{found-is-row, found-is-field, field-before-comma, field-before-crlf, field-before-end}
 use Rattle.tables.specs.Tables.{orElse, andAlso, mayBe, mostLocations, mostDoors}
 use Rattle.tables.specs.Below.{Tells}
@@ -34,10 +35,10 @@ use Rattle.tables.specs.declared.Found.{Found}
 use Rattle.tables.specs.declared.Found.the-variants.{At, Nothing}
 use Rattle.tables.specs.declared.RightFound.{RightFound}
 use Rattle.tables.specs.declared.RightFound.the-variants as pair
-use Rattle.tables.specs.Tests.{lacksExit, firstNoExit, strays, firstStray, firstNoDoor, firstNoRight, firstShutOut, countsFit, planInRange, lawfulB}
+use Rattle.tables.specs.Tests.{firstNoExit, strays, firstStray, firstNoDoor, firstNoRight, firstShutOut, countsFit, planInRange, lawfulB}
 use Rattle.tables.specs.Way.{wayOf, ifRoom, wayToldIn, wayWrittenIn}
-use Rattle.tables.proofs.Laws.{and-left, and-right, and-both, clash, least-at, may-be-outside, tell-le, tell-and, tell-as}
-use Rattle.tables.proofs.Answers.{in-range-tells, rule-8, rule-9, rule-10, lawful-tells}
+use Rattle.tables.proofs.Laws.{and-left, and-right, and-both, clash, least-at, tell-eq, tell-le, tell-and, tell-as}
+use Rattle.tables.proofs.Answers.{in-range-tells, rule-6, rule-7, rule-8, rule-9, rule-10, lawful-tells}
 use Rattle.tables.proofs.WayOut.{way-at-most}
 use Rattle.record.specs.declared.record.Record.{Record}
 use Rattle.phases.specs.declared.table.Kind.{Kind}
@@ -52,6 +53,7 @@ use Rattle.granting.specs.Grants.{grantOf}
 use Rattle.phases.specs.Kinds.{StepRow, kindOf, allows, namesPerson}
 use Rattle.soundness.specs.SoundTest.{listsSound}
 use Rattle.record.specs.SoundTest.{soundB}
+use Rattle.record.specs.Sound.{rightAt}
 use Rattle.door.specs.declared.does.Does.{Does}
 use Rattle.door.specs.declared.does.Does.the-variants.{Stays, Turns, Moves}
 use Rattle.door.specs.Does.{effect}
@@ -77,7 +79,7 @@ use Rattle.site_sheet.specs.Site.{soundFault, firstPlace, secondPlace, blankRec
 use Rattle.grammar.specs.Sizes.{limit}
 use Rattle.site_sheet.specs.Site as site
 use Rattle.site_sheet.proofs.Theorems.{given-exactly}
-use Rattle.demands.specs.DemandOne.{Within, Lies, FieldTold, RowTold, CountTold, SheetAnswers, WayTells, RulesAnswers}
+use Rattle.demands.specs.DemandOne.{Within, Lies, FieldTold, RowTold, CountTold, HasWord, HasWords, SheetAnswers, WayTells, RulesAnswers}
 use Rattle.demands.specs.Telling.{NumberBy}
 use Rattle.demands.specs.Lending.{Lent, LentRows, none, one, replyIn, LentIsSteps, LentIsRun}
 use Rattle.demands.specs.DemandOne.{Exists, stepOrder, StepTells, Room, RunTells, PlaceTells, GrantTells, WayOutTells, RecordAnswers, SiteTells, SiteAnswers}
@@ -162,26 +164,41 @@ count-told : (s : List ℕ) → CountTold s (countRows s)
 unfolding countRows rowsFrom
 count-told s = rows-told s (suc (length s - 0)) 0 0 (omega arith) (omega arith)
 
-word-told : (s : List ℕ) (cell : Cell) (word : List ℕ) → isWord s cell word ≡ true → contentAt s cell ≡ word
+word-tells : (s : List ℕ) (cell : Cell) (word : List ℕ) → Tells (isWord s cell word) (HasWord s cell word)
 unfolding isWord
-word-told s cell word = go (cell .doubled)
+word-tells s cell word = go (cell .doubled) refl
   where
-    go : (b : Bool) → cond b false (sameBytes (contentAt s cell) word) ≡ true → contentAt s cell ≡ word
-    go true e = absurd (false≢true e)
-    go false e = same-true (contentAt s cell) word e
+    go : (b : Bool) → cell .doubled ≡ b → Tells (cond b false (sameBytes (contentAt s cell) word)) (HasWord s cell word)
+    go true q = record { yes = λ e. absurd (false≢true e); back = λ w. clash q (w .0) }
+    go false q =
+        record {
+          yes = λ e. (q, same-true (contentAt s cell) word e);
+          back = λ w. subst (λ (c : List ℕ). sameBytes c word ≡ true) (sym (w .1)) (same-self word);
+        }
 
-words-told : (s : List ℕ) (cells : Cells) (x y z : List ℕ) → saysWords s cells x y z ≡ true
-    → (cells .count ≡ 3) × (contentAt s (cells .first) ≡ x) × (contentAt s (cells .second) ≡ y) × (contentAt s (cells .third) ≡ z)
-unfolding saysWords
-words-told s cells x y z = go (eqb (cells .count) 3) refl (isWord s (cells .first) x) refl (isWord s (cells .second) y) refl
+-- a test behind another
+tell-behind : {a b : Bool} {P Q : Type 0} → Tells a P → Tells b Q → Tells (cond a b false) (P × Q)
+tell-behind {a} {b} {P} {Q} t u = go a t
   where
-    go : (a : Bool) → eqb (cells .count) 3 ≡ a → (b : Bool) → isWord s (cells .first) x ≡ b → (c : Bool) → isWord s (cells .second) y ≡ c
-        → cond a (cond b (cond c (isWord s (cells .third) z) false) false) false ≡ true
-        → (cells .count ≡ 3) × (contentAt s (cells .first) ≡ x) × (contentAt s (cells .second) ≡ y) × (contentAt s (cells .third) ≡ z)
-    go true p true q true r e = (eqb-true (cells .count) 3 p, word-told s _ x q, word-told s _ y r, word-told s _ z e)
-    go true p true q false r e = absurd (false≢true e)
-    go true p false q c r e = absurd (false≢true e)
-    go false p b q c r e = absurd (false≢true e)
+    go : (x : Bool) → Tells x P → Tells (cond x b false) (P × Q)
+    go true t = record { yes = λ e. (t .yes refl, u .yes e); back = λ w. u .back (w .1) }
+    go false t = record { yes = λ e. absurd (false≢true e); back = λ w. t .back (w .0) }
+
+words-tell : (s : List ℕ) (cells : Cells) (x y z : List ℕ) → Tells (saysWords s cells x y z) (HasWords s cells x y z)
+unfolding saysWords
+words-tell s cells x y z =
+    tell-as (λ t. record { three = t .0; is-first = t .1 .0; is-second = t .1 .1 .0; is-third = t .1 .1 .1 })
+    (λ w. (w .three, (w .is-first, (w .is-second, w .is-third))))
+    (tell-behind (tell-eq (cells .count) 3)
+    (tell-behind (word-tells s (cells .first) x) (tell-behind (word-tells s (cells .second) y) (word-tells s (cells .third) z))))
+
+number-told : (s : List ℕ) (cell : Cell) (n : ℕ) → (numberAt s cell ≡ Is n) ↔ ((cell .doubled ≡ false) × ProperNumber (contentAt s cell) n)
+unfolding numberAt
+number-told s cell n = (go (cell .doubled) refl, λ w. ap (λ (b : Bool). cond b None (numberIn (contentAt s cell))) (w .0) ∙ proper-read (contentAt s cell) (w .1))
+  where
+    go : (b : Bool) → cell .doubled ≡ b → cond b None (numberIn (contentAt s cell)) ≡ Is n → (cell .doubled ≡ false) × ProperNumber (contentAt s cell) n
+    go true q e = no-number e
+    go false q e = (q, read-proper (contentAt s cell) e)
 
 pub of-sheet : SheetAnswers
 of-sheet =
@@ -192,9 +209,9 @@ of-sheet =
       reader-at-byte = λ sheet at. (refl, refl);
       reader-row = λ reader. row-told (now (reader .sheet)) (reader .at) _ refl;
       row-at = λ s at. row-told s at (cutRow s at) refl;
-      is-word = word-told;
-      says-words = words-told;
-      number-of = λ s cell n e. number-small s cell e;
+      is-word = word-tells;
+      says-words = words-tell;
+      number-of = number-told;
     }
 
 -- ---- crate `rules`
@@ -210,21 +227,36 @@ way-tells way list most =
     }
 
 -- past the last location no right is read
-no-right-past : (right : List Bool) (p l : ℕ) → mostLocations ≤ l → mayBe right p l ≡ false
+pub no-right-past : (right : List Bool) (p l : ℕ) → mostLocations ≤ l → mayBe right p l ≡ false
 unfolding mayBe orElse andAlso
 no-right-past right p l h = rw (ne-eqb l 0 (λ e. omega arith), le-ltb l mostLocations h)
 
+may-be-tells : (right : List Bool) (p l : ℕ) → Tells (mayBe right p l) ((l ≡ 0) ⊎ ((l < mostLocations) × (rightAt right p l ≡ true)))
+unfolding mayBe orElse andAlso
+may-be-tells right p l = go (eqb l 0) refl (ltb l mostLocations) refl
+  where
+    go : (a : Bool) → eqb l 0 ≡ a → (b : Bool) → ltb l mostLocations ≡ b
+        → Tells (orElse a (andAlso b (rightAt right p l))) ((l ≡ 0) ⊎ ((l < mostLocations) × (rightAt right p l ≡ true)))
+    go true a b _ = record { yes = λ _. inl (eqb-true l 0 a); back = λ _. refl }
+    go false a true b =
+        record { yes = λ e. inr (ltb-true l mostLocations b, e); back = ⊎-elim (λ is. clash (eq-eqb l 0 is) a) (λ has. has .1) }
+    go false a false b =
+        record {
+          yes = λ e. absurd (false≢true e);
+          back = ⊎-elim (λ is. clash (eq-eqb l 0 is) a) (λ has. clash (lt-ltb l mostLocations (has .0)) b);
+        }
+
 pub of-rules : RulesAnswers
-unfolding firstNoExit firstStray
+unfolding firstStray
 of-rules =
     record {
-      may-be = λ right p l. (may-be-outside right p, no-right-past right p l);
+      may-be = may-be-tells;
       in-range = in-range-tells;
-      first-no-exit = λ locations given l e. least-at (lacksExit given) locations l e .0;
-      first-stray = λ locations exit l e. least-at (strays locations exit) locations l e .0;
-      first-no-door = λ site l e. rule-8 site .at-yes l e .exists;
-      first-no-right = λ site right p l e. let at = rule-9 site right .at-yes p l e in (at .person, at .location .exists);
-      first-shut-out = λ site right p e. rule-10 site right .at-yes p e .exists;
+      first-no-exit = rule-6;
+      first-stray = λ locations exit. ((λ l e. least-at (strays locations exit) locations l e .0), rule-7 locations exit);
+      first-no-door = rule-8;
+      first-no-right = rule-9;
+      first-shut-out = rule-10;
       lawful = lawful-tells;
       way-out = λ locations exit from list. way-tells (wayOf locations exit from) list (way-at-most locations exit from);
     }

@@ -45,11 +45,12 @@ pub record ToldShort (s : Step) : Type 0 where
   pub phase-short : s .phase ≤ 9
   pub reason-short : s .reason ≤ 3
 
-act-small : (r : Record) (d : ℕ) (does : Does) → getD (r .phase) d 0 ≤ 9 → DoesTold does → ToldShort (act r d does)
+act-small : (r : Record) (k : Kind) (d : ℕ) (does : Does) → getD (r .phase) d 0 ≤ 9 → DoesTold k (doorOf r d) does → ToldShort (act r d does)
 unfolding act
-act-small r d Stays h m = record { phase-short = h; reason-short = omega arith }
-act-small r d (Turns c why) h m = record { phase-short = m .0; reason-short = m .1 }
-act-small r d (Moves c) h m = record { phase-short = m; reason-short = omega arith }
+act-small r k d Stays h m = record { phase-short = h; reason-short = omega arith }
+act-small r k d (Turns c why) h m = record { phase-short = m .1; reason-short = m .2 }
+act-small r k d (Moves c) h m =
+    let is = ap (λ (x : Door). x .phase) (m .1) in record { phase-short = omega arith; reason-short = omega arith }
 
 told-short : (r : Record) → Sound r → (k : Kind) (d p : ℕ) → ToldShort (stepOf r k d p)
 unfolding stepOf soundStep
@@ -57,7 +58,7 @@ told-short r s k d p =
     either ToldShort (soundB r)
     (λ _. either ToldShort (exist r k d p)
     (λ _. either ToldShort (allows k (getD (r .phase) d 0))
-    (λ _. act-small r d _ (phase-known r s d) (effect-told k p _ (doorOf r d) (reason-small (planOf r) (r .right) (r .place) (r .phase) (r .holder) d (getD (r .holder) d 0)) (phase-known r s d)))
+    (λ _. act-small r k d _ (phase-known r s d) (effect-told k p _ (doorOf r d) (reason-small (planOf r) (r .right) (r .place) (r .phase) (r .holder) d (getD (r .holder) d 0)) (phase-known r s d)))
     (λ _. record { phase-short = phase-known r s d; reason-short = omega arith }))
     (λ _. record { phase-short = omega arith; reason-short = omega arith }))
     (λ _. record { phase-short = omega arith; reason-short = omega arith })

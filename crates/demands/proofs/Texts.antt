@@ -39,7 +39,7 @@ use Rattle.run_text.proofs.Serving.{replies-length}
 use Rattle.run_text.proofs.Sheets.{zero-accepted}
 use Rattle.demands.specs.DemandOne.{TextWritten, TextTells, TextAnswers, RunAnswers}
 use Rattle.demands.specs.Telling.{OneOf}
-use Rattle.demands.proofs.DemandOne.{number-most, of-rules}
+use Rattle.demands.proofs.DemandOne.{number-most, no-right-past}
 use Rattle.demands.proofs.Fits.{row-short, rows-short, places-short}
 
 defined : (text out : List ℕ) → TextTells text out (printedOf text out) (written text out)
@@ -138,7 +138,7 @@ place-small : (r : Record) → Sound r → (p : ℕ) → p < r .people → getD 
 place-small r s p h = go (leb mostLocations (getD (r .place) p 0)) refl
   where
     go : (q : Bool) → leb mostLocations (getD (r .place) p 0) ≡ q → getD (r .place) p 0 < 100
-    go true q = absurd (true≢false (sym (s .placed p h) ∙ of-rules .may-be (r .right) p (getD (r .place) p 0) .1 (leb-true _ _ q)))
+    go true q = absurd (true≢false (sym (s .placed p h) ∙ no-right-past (r .right) p (getD (r .place) p 0) (leb-true _ _ q)))
     go false q = let l = leb-false mostLocations (getD (r .place) p 0) q in omega arith
 
 record-fits : (r : Record) → Sound r → r .people ≤ mostPeople → length (recordText r) ≤ mostWhereText

@@ -2,7 +2,7 @@
 -- from the papers. A refusal alters no record and no list lent to it." Each field is a public function, and says what follows of
 -- the definition that its promise cites. A function that answers no number tells a place or a fact: the place is there, the fact
 -- is told exactly.
-use Prim.Native.Nat.{ℕ, _+_, _-_, _^_, _≤_, _<_}
+use Prim.Native.Nat.{ℕ, _+_, _-_, _≤_, _<_}
 use mathlib.Core.Path.{_≡_}
 use mathlib.Core.Bool.{Bool, true, false, cond}
 use mathlib.Core.List.{List, [], _∷_, _++_, map}
@@ -25,20 +25,19 @@ use Rattle.grammar.specs.declared.say.Number.the-variants.{Is}
 use Rattle.grammar.specs.Cut.{cutField, cutRow}
 use Rattle.grammar.specs.Rows.{countRows}
 use Rattle.sheet.specs.Reader.{readerAt}
-use Rattle.grammar.specs.Say.{contentAt, isWord, saysWords, numberAt}
+use Rattle.grammar.specs.Say.{ProperNumber, contentAt, isWord, saysWords, numberAt}
 use Rattle.text.specs.declared.printed.Printed.{Printed}
 use Rattle.text.specs.declared.printed.Printed.the-variants.{Text}
 use Rattle.text.specs.Text.{decimal, rowOfNumbers}
 use Rattle.text.specs.Wrote.{lastPlace, Wrote}
 use Rattle.text.specs.Printed.{printedOf, Prints, printedNo}
 use Rattle.tables.specs.declared.Found.the-variants.{At, Nothing}
-use Rattle.tables.specs.declared.RightFound.the-variants as pair
 use Rattle.tables.specs.declared.WayTold.the-variants.{Length, TooShort}
 use Rattle.tables.specs.Tables.{Plan, mayBe, mostPeople, mostLocations}
-use Rattle.tables.specs.Below.{Tells}
-use Rattle.tables.specs.Rules.{PlanInRange, Lawful}
+use Rattle.tables.specs.Below.{Tells, Answers, AnswersPair}
+use Rattle.tables.specs.Rules.{PlanInRange, FirstLocation, ExitDoor, ExitRight, Lawful}
 use Rattle.tables.specs.Tests.{planInRange, firstNoExit, firstStray, firstNoDoor, firstNoRight, firstShutOut, lawfulB}
-use Rattle.tables.specs.Way.{wayOf, wayToldIn, wayWrittenIn}
+use Rattle.tables.specs.Way.{LeadsOut, wayOf, wayToldIn, wayWrittenIn}
 use Rattle.record.specs.declared.record.Record.{Record}
 use Rattle.phases.specs.declared.table.Kind.{Kind}
 use Rattle.phases.specs.declared.table.Kind.the-variants.{Card, Decide, Green, Red, Walk, Tick, Passed, Lapsed, Dark, Ack, Unknown}
@@ -50,8 +49,8 @@ use Rattle.phases.specs.Answers.{lengthTold, wayNo, grantTold, grantNo, placeTo
 use Rattle.door.specs.declared.Door.{Door}
 use Rattle.door.specs.declared.does.Does.{Does}
 use Rattle.door.specs.declared.does.Does.the-variants.{Stays, Turns, Moves}
-use Rattle.phases.specs.Phase.{granted, expired, denied, closed, keeps, grants, mostCount}
-use Rattle.door.specs.Door.{freeDoor, doorIn}
+use Rattle.phases.specs.Phase.{free, granted, green, expired, denied, red, closed, keeps, grants, leastCount, mostCount}
+use Rattle.door.specs.Door.{door, freeDoor, doorIn}
 use Rattle.door.specs.Fits.{fieldsFit}
 use Rattle.door.specs.Does.{effect}
 use Rattle.record.specs.Doors.{freshRecord, Shaped}
@@ -60,15 +59,15 @@ use Rattle.granting.specs.Reasons.{firstReason}
 use Rattle.soundness.specs.SoundTest.{listsSound}
 use Rattle.phases.specs.Kinds.{StepRow, kindOf, numberOfKind, allows, namesPerson}
 use Rattle.phases.specs.Table.{asked}
-use Rattle.record.specs.Sound.{ZeroBeyond, Sound}
+use Rattle.record.specs.Sound.{rightAt, ZeroBeyond, Sound}
 use Rattle.record.specs.SoundTest.{soundB}
-use Rattle.record.specs.Steps.{stepOf}
-use Rattle.record.specs.Deeds.{telling}
+use Rattle.record.specs.Steps.{First, stepOf}
+use Rattle.record.specs.Deeds.{recordOf, telling}
 use Rattle.record.specs.Run.{rowsOf, lastOf, repliesOf, answerTold, phaseTold, reasonTold, runOf, answersOf, phasesOf, reasonsOf}
 use Rattle.record.specs.Questions.{askedNo, unlessRefused, placeOf, grantedTo, wayAnswerOf, wayWritten, wayAskedNo}
 use Rattle.verdict.specs.declared.Verdict.{Verdict}
 use Rattle.site_sheet.specs.Site.{siteOf, blankRecord, firstPlace, secondPlace}
-use Rattle.grammar.specs.Sizes.{limit, width}
+use Rattle.grammar.specs.Sizes.{limit}
 use Rattle.site_sheet.specs.Site as site
 use Rattle.site_sheet.specs.Gives.{Gives}
 use Rattle.steps_sheet.specs.declared.Heading.{Heading}
@@ -108,6 +107,16 @@ abbrev pub CountTold : List ℕ → RowsCounted → Type 0
 CountTold s (All rows) = rows ≤ length s
 CountTold s (UpTo rows byte) = (rows ≤ length s) × (byte ≤ length s)
 
+-- a cell has a word's bytes, and no doubled quote
+abbrev pub HasWord : List ℕ → Cell → List ℕ → Type 0
+HasWord s cell word = (cell .doubled ≡ false) × (contentAt s cell ≡ word)
+
+pub record HasWords (s : List ℕ) (cells : Cells) (x y z : List ℕ) : Type 0 where
+  pub three : cells .count ≡ 3
+  pub is-first : HasWord s (cells .first) x
+  pub is-second : HasWord s (cells .second) y
+  pub is-third : HasWord s (cells .third) z
+
 pub record SheetAnswers : Type 0 where
   pub cut-field : (s : List ℕ) (at : ℕ) → at ≤ length s → FieldTold s at (cutField s at)
   pub cut-row : (s : List ℕ) (at : ℕ) → RowTold s at (cutRow s at)
@@ -116,13 +125,11 @@ pub record SheetAnswers : Type 0 where
   pub reader-at-byte : (sheet : RefT (List ℕ)) (at : ℕ) → (readerAt sheet at .sheet ≡ sheet) × (readerAt sheet at .at ≡ at)
   pub reader-row : (reader : Reader) → RowTold (now (reader .sheet)) (reader .at) (cutRow (now (reader .sheet)) (reader .at))
   pub row-at : (s : List ℕ) (at : ℕ) → RowTold s at (cutRow s at)
-  -- a cell that is a word has its bytes
-  pub is-word : (s : List ℕ) (cell : Cell) (word : List ℕ) → isWord s cell word ≡ true → contentAt s cell ≡ word
-  -- a row that says three words has three cells, which have their bytes
-  pub says-words : (s : List ℕ) (cells : Cells) (x y z : List ℕ) → saysWords s cells x y z ≡ true
-      → (cells .count ≡ 3) × (contentAt s (cells .first) ≡ x) × (contentAt s (cells .second) ≡ y) × (contentAt s (cells .third) ≡ z)
-  -- "A number is 1 to 3 digits"
-  pub number-of : (s : List ℕ) (cell : Cell) (n : ℕ) → numberAt s cell ≡ Is n → n < 10 ^ width
+  -- a cell is a word, and the three cells of a row are three words, exactly when they have the words' bytes
+  pub is-word : (s : List ℕ) (cell : Cell) (word : List ℕ) → Tells (isWord s cell word) (HasWord s cell word)
+  pub says-words : (s : List ℕ) (cells : Cells) (x y z : List ℕ) → Tells (saysWords s cells x y z) (HasWords s cells x y z)
+  -- "A number is 1 to 3 digits with no needless leading zero.": a cell is told as one exactly when it is one
+  pub number-of : (s : List ℕ) (cell : Cell) (n : ℕ) → (numberAt s cell ≡ Is n) ↔ ((cell .doubled ≡ false) × ProperNumber (contentAt s cell) n)
 
 -- ---- crate `text`
 
@@ -154,12 +161,19 @@ pub record TextAnswers : Type 0 where
 
 -- ---- crate `tables`
 
--- past a list's end 0 is read, and nothing is written
+-- a number put at a place of a list: it stands there, all else is as it was, and past the list's end nothing is written
+pub record PutTells (list : List ℕ) (at n : ℕ) : Type 0 where
+  pub as-long : length (set list at n) ≡ length list
+  pub there : at < length list → getD (set list at n) at 0 ≡ n
+  pub others : (i : ℕ) → (i ≡ at → ⊥) → getD (set list at n) i 0 ≡ getD list i 0
+  pub past : length list ≤ at → set list at n ≡ list
+
+-- past a list's end 0 is read
 pub record TablesAnswers : Type 0 where
   pub byte-at : (list : List ℕ) (at : ℕ) → length list ≤ at → getD list at 0 ≡ 0
   pub word-at : (list : List ℕ) (at : ℕ) → length list ≤ at → getD list at 0 ≡ 0
-  pub put-byte : (list : List ℕ) (at n : ℕ) → (length (set list at n) ≡ length list) × (length list ≤ at → set list at n ≡ list)
-  pub put-word : (list : List ℕ) (at n : ℕ) → (length (set list at n) ≡ length list) × (length list ≤ at → set list at n ≡ list)
+  pub put-byte : (list : List ℕ) (at n : ℕ) → PutTells list at n
+  pub put-word : (list : List ℕ) (at n : ℕ) → PutTells list at n
 
 -- ---- crate `rules`
 
@@ -169,32 +183,47 @@ pub record WayTells (way list : List ℕ) : Type 0 where
   pub room : length way ≤ length list → (wayToldIn way list ≡ Length (length way)) × (wayWrittenIn way list ≡ way ++ drop (length way) list)
   pub most : length way ≤ mostLocations - 1
 
--- a test tells its rule, and an offender that is told is there
+-- a test tells its rule, and a search answers none exactly when the rule holds, and else its smallest offender (`Answers` of `tables`)
 pub record RulesAnswers : Type 0 where
-  -- "Location 0 is everybody's", and no right is read for a location past the last
-  pub may-be : (right : List Bool) (p l : ℕ) → (mayBe right p 0 ≡ true) × (mostLocations ≤ l → mayBe right p l ≡ false)
+  -- "person p may be in l .. Location 0 is everybody's": else the right stands in the table, which ends at the last location
+  pub may-be : (right : List Bool) (p l : ℕ) → Tells (mayBe right p l) ((l ≡ 0) ⊎ ((l < mostLocations) × (rightAt right p l ≡ true)))
   pub in-range : (most : ℕ) (site : Plan) → Tells (planInRange most site) (PlanInRange most site)
-  pub first-no-exit : (locations : ℕ) (given : List Bool) (l : ℕ) → firstNoExit locations given ≡ At l → l < locations
-  pub first-stray : (locations : ℕ) (exit : List ℕ) (l : ℕ) → firstStray locations exit ≡ At l → l < locations
-  pub first-no-door : (site : Plan) (l : ℕ) → firstNoDoor site ≡ At l → l < site .locations
-  pub first-no-right : (site : Plan) (right : List Bool) (p l : ℕ) → firstNoRight site right ≡ pair.At p l → (p < site .people) × (l < site .locations)
-  pub first-shut-out : (site : Plan) (right : List Bool) (p : ℕ) → firstShutOut site right ≡ At p → p < site .people
+  pub first-no-exit : (locations : ℕ) (given : List Bool) → Answers (firstNoExit locations given) (λ l. 1 ≤ l → getD given l false ≡ true) locations
+  -- so where the exits are in range; elsewhere too a location that is told is there
+  pub first-stray : (locations : ℕ) (exit : List ℕ)
+      → ((l : ℕ) → firstStray locations exit ≡ At l → l < locations)
+      × (1 ≤ locations → locations ≤ mostLocations → ((l : ℕ) → l < locations → getD exit l 0 < locations)
+      → Answers (firstStray locations exit) (LeadsOut exit) locations)
+  pub first-no-door : (site : Plan) → Answers (firstNoDoor site) (ExitDoor site) (site .locations)
+  pub first-no-right : (site : Plan) (right : List Bool) → AnswersPair (firstNoRight site right) (ExitRight site right) (site .people) (site .locations)
+  pub first-shut-out : (site : Plan) (right : List Bool) → Answers (firstShutOut site right) (FirstLocation site right) (site .people)
   pub lawful : (most : ℕ) (site : Plan) (right : List Bool) → Tells (lawfulB most site right) (Lawful most site right)
   pub way-out : (locations : ℕ) (exit : List ℕ) (from : ℕ) (list : List ℕ) → WayTells (wayOf locations exit from) list
 
 -- ---- crates `phases` and `door`
 
--- a step leaves its door in one of the ten phases, with one of the reasons told
-abbrev pub DoesTold : Does → Type 0
-DoesTold Stays = 0 ≤ closed
-DoesTold (Turns c why) = (c .phase ≤ closed) × (why ≤ 3)
-DoesTold (Moves c) = c .phase ≤ closed
+-- what a step of kind k does at a door that is c
+abbrev pub DoesTold : Kind → Door → Does → Type 0
+-- "In any other phase: done, nothing altered.": only a tick at a door in neither 3 nor 7 alters nothing, and what is no step
+DoesTold k c Stays = ((k ≡ Tick) × (c .phase ≡ green → ⊥) × (c .phase ≡ red → ⊥)) ⊎ (k ≡ Unknown)
+-- the door is left in one of the ten phases, with one of the reasons told, by `decide` alone
+DoesTold k c (Turns x why) = (k ≡ Passed → ⊥) × (x .phase ≤ closed) × (why ≤ 3) × ((why ≡ 0 → ⊥) → k ≡ Decide)
+-- "`passed`: 4 to 9; .. the person is dropped", and it alone moves anybody
+DoesTold k c (Moves x) = (k ≡ Passed) × (x ≡ door closed 0 0)
+
+-- "each door's fields fit": the phase is one of the ten, a held person exists, and the countdown is within the bounds of its phase
+pub record DoorFits (people : ℕ) (c : Door) : Type 0 where
+  pub known : c .phase ≤ closed
+  pub held : keeps (c .phase) ≡ true → c .holder < people
+  pub nobody : (keeps (c .phase) ≡ true → ⊥) → c .holder ≡ 0
+  pub least : leastCount (c .phase) ≤ c .count
+  pub most : c .count ≤ mostCount (c .phase)
 
 pub record DoorAnswers : Type 0 where
   -- the table's numbers of steps and questions
   pub answer-number : (a : Answer) → OneOf (doneNo ∷ noSuchNo ∷ notAllowedNo ∷ tooShortNo ∷ unsoundNo ∷ []) (answerNo a)
-  -- a number past 9 names no step, and no phase allows that
-  pub kind-of : (n : ℕ) → 10 ≤ n → kindOf n ≡ Unknown
+  -- the numbers past those of the ten steps, and they alone, name no step; no phase allows that
+  pub kind-of : (n : ℕ) → (kindOf n ≡ Unknown) ↔ (numberOfKind Unknown ≤ n)
   -- the number of a step names it
   pub kind-number : (k : Kind) → kindOf (numberOfKind k) ≡ k
   -- "one fixed table, a hundred entries": at the ten phases it says what the steps' own rules say
@@ -203,23 +232,24 @@ pub record DoorAnswers : Type 0 where
   pub grants : (phase : ℕ) → Tells (grants phase) ((granted ≤ phase) × (phase ≤ expired))
   -- beyond its lists a door is free
   pub among : (phase holder count : List ℕ) (d : ℕ) → length phase ≤ d → length holder ≤ d → length count ≤ d → doorIn phase holder count d ≡ freeDoor
-  pub free : freeDoor .phase ≤ closed
-  -- of a door that fits, the phase is one of the ten, a held person exists and the countdown isn't longer than its light's span
-  pub fits : (people : ℕ) (c : Door) → fieldsFit people c ≡ true
-      → (c .phase ≤ closed) × (keeps (c .phase) ≡ true → c .holder < people) × (c .count ≤ mostCount (c .phase))
-  pub does : (k : Kind) (p why : ℕ) (c : Door) → why ≤ 3 → c .phase ≤ closed → DoesTold (effect k p why c)
+  -- "0 free": person 0, countdown 0; and it fits, whatever the people
+  pub free : (freeDoor .phase ≡ free) × (freeDoor .holder ≡ 0) × (freeDoor .count ≡ 0) × ((people : ℕ) → DoorFits people freeDoor)
+  pub fits : (people : ℕ) (c : Door) → Tells (fieldsFit people c) (DoorFits people c)
+  pub does : (k : Kind) (p why : ℕ) (c : Door) → why ≤ 3 → c .phase ≤ closed → DoesTold k c (effect k p why c)
 
 -- ---- crates `granting` and `soundness`
 
 pub record SoundAnswers : Type 0 where
-  -- the door that is told is there and holds a grant of the person
-  pub grant-of : (n : ℕ) (phase holder : List ℕ) (p d : ℕ) → grantOf n phase holder p ≡ At d → GrantAt n phase holder p d
-  -- "reason 1 .., 2 .., 3 ..", and 0 for none
-  pub first-reason : (site : Plan) (right : List Bool) (place phase holder : List ℕ) (d p : ℕ) → firstReason site right place phase holder d p ≤ 3
-  -- lists that are told sound: "Places beyond the counts are 0", everyone is where they may be, and no person has two grants
-  pub lists-sound : (site : Plan) (right : List Bool) (place phase holder count : List ℕ) → listsSound site right place phase holder count ≡ true
-      → ZeroBeyond site right × ((p : ℕ) → p < site .people → mayBe right p (getD place p 0) ≡ true)
-      × ((p d e : ℕ) → GrantAt (site .doors) phase holder p d → GrantAt (site .doors) phase holder p e → d ≡ e)
+  -- the door that is told is there and holds a grant of the person, and none is told exactly when no door does
+  pub grant-of : (n : ℕ) (phase holder : List ℕ) (p : ℕ)
+      → ((d : ℕ) → grantOf n phase holder p ≡ At d → GrantAt n phase holder p d)
+      × ((grantOf n phase holder p ≡ Nothing) ↔ ((d : ℕ) → GrantAt n phase holder p d → ⊥))
+  -- "reason 1 .., 2 .., 3 .., the first that applies", and 0 for none, of a record that has these lists
+  pub first-reason : (site : Plan) (right : List Bool) (place phase holder count : List ℕ) (d p n : ℕ)
+      → (firstReason site right place phase holder d p ≡ n) ↔ First (recordOf site right place phase holder count) d p n
+  -- lists are told sound exactly when the record that has them is
+  pub lists-sound : (site : Plan) (right : List Bool) (place phase holder count : List ℕ) → Shaped (recordOf site right place phase holder count)
+      → Tells (listsSound site right place phase holder count) (Sound (recordOf site right place phase holder count))
 
 -- ---- crate `record`: a step
 
@@ -333,10 +363,10 @@ pub record RecordAnswers : Type 0 where
 
 -- what is answered to a sheet: each number, with its place, exactly when its line of the table says so
 pub record SiteTells (s : List ℕ) : Type 0 where
-  pub number : site.verdictNo (siteOf s .verdict) ≤ 10
+  pub number : site.verdictNo (siteOf s .verdict) ≤ shutOutNo
   pub exactly : (v : Verdict) → (siteOf s .verdict ≡ v) ↔ Gives limit s v
   -- "A refused site sheet gives no new record.": the blank one, which isn't sound
-  pub no-record : (site.verdictNo (siteOf s .verdict) ≡ 0 → ⊥) → (siteOf s .«record» ≡ blankRecord) × (soundB (siteOf s .«record») ≡ true → ⊥)
+  pub no-record : (site.verdictNo (siteOf s .verdict) ≡ doneNo → ⊥) → (siteOf s .«record» ≡ blankRecord) × (soundB (siteOf s .«record») ≡ true → ⊥)
 
 pub record SiteAnswers : Type 0 where
   pub read-site : (s : List ℕ) → SiteTells s
