@@ -32,11 +32,10 @@ use Rattle.granting.specs.Reasons.{firstReason}
 use Rattle.soundness.specs.SoundTest.{listsSound}
 use Rattle.tables.proofs.Cases.{either}
 use Rattle.granting.proofs.Granting.{found-grant, no-grant, no-door}
-use Rattle.record.specs.Doors.{Shaped}
+use Rattle.record.specs.Doors.{recordOf, Shaped}
 use Rattle.record.specs.Sound.{Sound}
 use Rattle.record.specs.SoundTest.{soundB}
 use Rattle.record.specs.Steps.{First}
-use Rattle.record.specs.Deeds.{recordOf}
 use Rattle.record.proofs.Tells.{tell-fields, sound-tells}
 use Rattle.record.proofs.Right.{reason-first, reason-only}
 use Rattle.demands.specs.DemandOne.{PutTells, TablesAnswers, DoesTold, DoorFits, DoorAnswers, SoundAnswers}

@@ -53,7 +53,7 @@ use Rattle.phases.specs.Phase.{free, granted, green, expired, denied, red, clos
 use Rattle.door.specs.Door.{door, freeDoor, doorIn}
 use Rattle.door.specs.Fits.{fieldsFit}
 use Rattle.door.specs.Does.{effect}
-use Rattle.record.specs.Doors.{freshRecord, Shaped}
+use Rattle.record.specs.Doors.{recordOf, freshRecord, Shaped}
 use Rattle.granting.specs.Grants.{GrantAt, grantOf}
 use Rattle.granting.specs.Reasons.{firstReason}
 use Rattle.soundness.specs.SoundTest.{listsSound}
@@ -62,7 +62,7 @@ use Rattle.phases.specs.Table.{asked}
 use Rattle.record.specs.Sound.{rightAt, ZeroBeyond, Sound}
 use Rattle.record.specs.SoundTest.{soundB}
 use Rattle.record.specs.Steps.{First, stepOf}
-use Rattle.record.specs.Deeds.{recordOf, telling}
+use Rattle.record.specs.Deeds.{telling}
 use Rattle.record.specs.Run.{rowsOf, lastOf, repliesOf, answerTold, phaseTold, reasonTold, runOf, answersOf, phasesOf, reasonsOf}
 use Rattle.record.specs.Questions.{askedNo, unlessRefused, placeOf, grantedTo, wayAnswerOf, wayWritten, wayAskedNo}
 use Rattle.verdict.specs.declared.Verdict.{Verdict}
