@@ -25,7 +25,8 @@ pub data FreeDoors (r : Record) : ℕ → List ℕ → List ℕ → Type 0 where
   through : {l m : ℕ} {way doors : List ℕ} → (leads : DoorFrom (planOf r) l m) → doorOf r (leads .door) ≡ freeDoor → FreeDoors r m way doors
       → FreeDoors r l (m ∷ way) (leads .door ∷ doors)
 
--- person p passes each of these doors, served one after the other: `card`, `decide`, `green`, `walk`, `passed`, `ack`
+-- person p passes each of these doors, served one after the other: `card`, `decide`, `green`, `walk`, `passed`, `ack` (a service doesn't
+-- look at the row of its event)
 unfoldable pub passagesOf : ℕ → List ℕ → List RunEvent
 passagesOf p [] = []
 passagesOf p (d ∷ doors) = event 0 d p Passage ∷ passagesOf p doors
