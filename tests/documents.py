@@ -215,6 +215,31 @@ def check_paths():
                 faults.append(f"{page} names {path}, which is not there")
 
 
+PATH = re.compile(r"(?<![\w./])((?:crates/)?(?:[a-z_]+/)?(?:specs|proofs|src)/[A-Za-z_0-9/]+\.(?:antt|rt)|(?:tests|bin|bench|docs)/[A-Za-z_0-9./-]*\w)")
+
+
+def sources():
+    """The files of Rattle and of antt, each with its crate."""
+    for folder, _, names in os.walk("crates"):
+        for name in sorted(names):
+            if name.endswith((".rt", ".antt")):
+                yield os.path.join(folder, name), folder.split(os.sep)[1]
+
+
+def check_comments(listed):
+    """Each path that a comment names is there, from the root, from `crates` or from the comment's own crate; and so is each crate."""
+    for path, crate in sources():
+        for number, line in enumerate(read(path).splitlines(), 1):
+            if not line.strip().startswith(("//", "--")):
+                continue
+            for named in PATH.findall(line):
+                if not any(os.path.exists(os.path.join(*at, named)) for at in [(".",), ("crates",), ("crates", crate)]):
+                    faults.append(f"{path}:{number} names {named}, which is not there")
+            for named in re.findall(r"\bcrate `([a-z_]+)`", line):
+                if named not in listed:
+                    faults.append(f"{path}:{number} names the crate {named}, which is not there")
+
+
 def defines(text, name):
     """Whether a file of definitions or theorems has this name as one of its own that others can use."""
     return re.search(r"^\s*(?:(?:abbrev|unfoldable) )?pub (?:data |record )?%s[ :]" % re.escape(name), text, re.M)
@@ -249,6 +274,7 @@ def main():
     check_map(listed)
     check_paths()
     check_rules()
+    check_comments(listed)
     for fault in faults:
         print(fault)
     print(f"documents: {len(listed)} crates, {len(faults)} faults")

@@ -2,10 +2,10 @@
 -- function or sentence with the papers' line beside it:
 --     demand-1          `specs/DemandOne.antt`
 --     demand-2          `specs/DemandTwo.antt`
---     demand-3          `specs/Served.antt`, by `specs/Serving.antt`
+--     demand-3          `card_by_card/specs/Served.antt`, by `card_by_card/specs/Serving.antt`
 --     demand-3-printed  `specs/Bytes.antt`
---     put-by-passages, refused-moves-nobody         `specs/Warden.antt`
---     walks-out         `specs/Leaving.antt`
+--     put-by-passages, refused-moves-nobody         `card_by_card/specs/Warden.antt`
+--     walks-out         `card_by_card/specs/Leaving.antt`
 --     answers-unique    `specs/Unique.antt`
 --     twelve-cases      `specs/Cases.antt`
 -- They speak of the definitions that the promises in `src/` of each crate cite, so that they hold of the code. Assume nothing.

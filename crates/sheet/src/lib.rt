@@ -2,7 +2,7 @@
 //
 // `cut` has the field cutter and the row cutter, `say` what a field says (a word, a number), `count` goes over a whole sheet,
 // and `reader` holds a sheet and the byte it has come to.
-// The grammar is specs/Grammar.antt, and proofs/Theorems.antt ties every promise here to it.
+// The grammar is grammar/specs/Grammar.antt, and grammar/proofs/Theorems.antt ties every promise here to it.
 pub mod count;
 pub mod cut;
 pub mod reader;

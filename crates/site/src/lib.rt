@@ -1,7 +1,7 @@
 // A site sheet becomes a fresh record, or a refusal with its place.
 //
 // Here is what a row says, and how a row goes into the tables while a sheet is being read; `read` has the whole sheet. The
-// definitions, and the theorems of them, are those of crate `says`.
+// definitions, and the theorems of them, are those of crate `site_sheet`.
 ghost use Prim.Native.Nat.{ℕ};
 ghost use mathlib.Core.Bool.{Bool};
 ghost use mathlib.Core.List.{List};
