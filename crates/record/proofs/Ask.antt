@@ -3,19 +3,19 @@
 --     grant-told, none-told the door that is told holds the person's grant, and where none is told there is none
 --     way-out-safe          everybody's way out leads outside, through doors, by locations that they may be in
 -- Assumes nothing.
-use Prim.Native.Nat.{ℕ, _-_, _≤_, _<_}
+use Prim.Native.Nat.{ℕ, _<_}
 use mathlib.Core.Path.{_≡_, refl, sym, _∙_}
 use mathlib.Core.Bool.{Bool, true, false}
 use mathlib.Core.Logic.{⊎-elim}
 use native.Mathlib.Omega.{arith}
 use borrow.Author.Tests.{eqb-true, ltb-true, lt-ltb}
-use lib.ListN.{length, getD}
+use lib.ListN.{getD}
 use lib.Dec.{eqb, ltb}
 use Rattle.tables.specs.Tables.{mayBe, orElse, andAlso, mostLocations}
 use Rattle.tables.specs.Way.{wayOf}
 use Rattle.tables.specs.Rules.{SafeWay}
 use Rattle.tables.proofs.Laws.{clash, and-left, and-right}
-use Rattle.tables.proofs.WayOut.{way-is-safe, way-at-most}
+use Rattle.tables.proofs.WayOut.{way-is-safe}
 use Rattle.record.specs.declared.record.Record.{Record}
 use Rattle.phases.specs.declared.answer.PlaceAnswer.the-variants as place
 use Rattle.phases.specs.declared.answer.GrantAnswer.the-variants as grant
@@ -66,7 +66,3 @@ none-told r sh s p h none = rw (sound-tells r sh .back s, lt-ltb p (r .people) h
 pub way-out-safe : (r : Record) → Sound r → (p : ℕ) → p < r .people
     → SafeWay (planOf r) (r .right) p (getD (r .place) p 0) (wayOf (r .locations) (r .exit) (getD (r .place) p 0))
 way-out-safe r s p h = way-is-safe (s .tables) p (getD (r .place) p 0) h (place-is-location r s p h) (s .placed p h)
-
--- and it has at most 31 members
-pub way-out-short : (r : Record) (p : ℕ) → length (wayOf (r .locations) (r .exit) (getD (r .place) p 0)) ≤ mostLocations - 1
-way-out-short r p = way-at-most (r .locations) (r .exit) (getD (r .place) p 0)
