@@ -7,6 +7,8 @@ import os
 import re
 import sys
 
+import edits
+
 FUNCTION = re.compile(r"^\s*(?:#\[[^\]]*\]\s*)?pub\s+(?:extern\s+\"C\"\s+)?fn\s+([a-z_0-9]+)", re.M)
 BODY = re.compile(r"^\s*[{}]$", re.M)
 TOKEN = re.compile(r"[^\s(){}\[\];,⌜⌝]+")
@@ -15,21 +17,36 @@ OWNER = re.compile(r"^impl(?:<[^>]*>)?\s+([A-Za-z_0-9]+)", re.M)
 # The parts of demand 1 and of the uniqueness of answers (`SheetAnswers`, `SheetUnique`, ..) in which a crate's functions have their fields.
 PARTS = {
     "sheet": ["Sheet"],
+    "cells": ["Sheet"],
+    "reader": ["Sheet"],
     "text": ["Text"],
-    "tables": ["Tables", "Enum"],
+    "lists": ["Tables"],
+    "told": ["Text", "Enum"],
+    "asked": ["Enum"],
     "rules": ["Rules"],
     "phases": ["Door", "Enum"],
     "door": ["Door"],
     "granting": ["Sound"],
     "soundness": ["Sound"],
+    "deeds": ["Deeds"],
     "record": ["Record"],
+    "lending": ["Record"],
+    "questions": ["Record"],
+    "step_list": ["Record"],
     "verdict": ["Site"],
+    "site_row": ["Site"],
+    "site_tables": ["Site"],
     "site": ["Site"],
+    "steps_row": ["Steps"],
     "steps": ["Steps"],
-    "run_text": ["Run"],
     "run": ["Run"],
+    "blank_lists": ["Run"],
+    "outside": ["Run"],
     "sheet_files": ["Run"],
 }
+# The crates whose specs/ say demand 1 and the uniqueness of answers, and the two records of `demands` that hold all their parts.
+SAID_IN = ["sheet_answers", "table_answers", "record_answers", "demands"]
+WHOLE = {"Answers": "DemandOne", "Unique": "AnswersUnique"}
 # What these tell comes from outside, so that they have no field (docs/DEMANDS.md).
 OUTSIDE = {"read_sheet", "read_asked", "number_asked"}
 # What is said of every plan is said of each that `plan` puts together from its parts.
@@ -131,27 +148,33 @@ def check_promises(listed):
                 faults.append(f"docs/PROMISES.md does not name {crate}::{name}")
         for edit in sorted(edits - set(re.findall(r"`([A-Za-z_0-9]+)`", page))):
             faults.append(f"docs/PROMISES.md does not name the must-fail edit {crate}/{edit}")
+    for crate, table in re.findall(r"^\| must-fail edits of `([a-z_]+)` \| \|\n((?:\|.*\n)*)", page, re.M):
+        for edit in re.findall(r"^\| `([A-Za-z_0-9]+)` \|", table, re.M):
+            if edit not in edits_of(crate):
+                faults.append(f"docs/PROMISES.md names the must-fail edit {crate}/{edit}, which is not there")
 
 
 def statements():
-    """The definitions of crates/demands/specs by name, and the fields of those that are records."""
+    """The definitions of the crates that say the demands, by name, and the fields of those that are records."""
     bodies, fields = {}, {}
-    folder = os.path.join("crates", "demands", "specs")
-    for name in sorted(os.listdir(folder)):
-        text = re.sub(r"^\s*--.*\n", "", read(folder, name), flags=re.M)
+    folders = [os.path.join("crates", crate, "specs") for crate in SAID_IN]
+    for path in [os.path.join(folder, name) for folder in folders for name in sorted(os.listdir(folder))]:
+        text = re.sub(r"^\s*--.*\n", "", read(path), flags=re.M)
         for block in re.split(r"^(?=\S)", text, flags=re.M):
             head = re.match(r"(?:(?:abbrev|unfoldable) pub (?=\S+ :)|pub (?:record|data) )?([^\s:]+)", block)
             if not head or block.startswith(("use ", "pub mod ")):
                 continue
             bodies[head.group(1)] = bodies.get(head.group(1), "") + block
             if block.startswith("pub record "):
+                if head.group(1) in fields:
+                    faults.append(f"{path} has a second record {head.group(1)}")
                 parts = re.split(r"^  pub (\S+) :", block, flags=re.M)
                 fields[head.group(1)] = dict(zip(parts[1::2], parts[2::2]))
     return bodies, fields
 
 
 def cited(text, bodies):
-    """The names in a statement, and in those of crates/demands/specs that it cites."""
+    """The names in a statement, and in those that it cites."""
     names, left = set(), [text]
     while left:
         for name in TOKEN.findall(left.pop()):
@@ -180,6 +203,13 @@ def field_name(name):
 def check_fields(listed):
     """Each public function has its field in demand 1 and in the uniqueness of answers, which cites what its promise cites."""
     bodies, fields = statements()
+    for kind, whole in WHOLE.items():
+        held = cited(" ".join(fields[whole].values()), {})
+        for part in sorted({part + kind for parts in PARTS.values() for part in parts} | {name for name in fields if name.endswith(kind) and name != whole}):
+            if part not in fields:
+                faults.append(f"no crate that says the demands has a record {part}")
+            elif part not in held:
+                faults.append(f"{whole} does not hold {part}")
     for crate in listed:
         for name, head, text in functions(crate):
             if name in OUTSIDE:
@@ -187,11 +217,11 @@ def check_fields(listed):
             if "ensures" not in head:
                 faults.append(f"{crate}::{name} has no promise")
             for kind in ("Answers", "Unique"):
-                parts = [fields[part + kind] for part in PARTS.get(crate, [])]
+                parts = [fields.get(part + kind, {}) for part in PARTS.get(crate, [])]
                 names = [field_name(name), field_name(name.split("::")[-1])]
                 found = [part[field] for field in names for part in parts if field in part]
                 if not found:
-                    faults.append(f"crates/demands/specs has no field for {crate}::{name} ({kind})")
+                    faults.append(f"no crate that says the demands has a field for {crate}::{name} ({kind})")
                     continue
                 said = cited(found[0], bodies)
                 for lost in sorted(promised_by(head, text) - said):
@@ -200,10 +230,13 @@ def check_fields(listed):
 
 
 def check_map(listed):
-    readme = read("README.md")
-    for crate in listed:
-        if f"`{crate}`" not in readme:
-            faults.append(f"README.md does not name the crate {crate}")
+    """README.md has a row for each crate of crates.txt, which names those that it stands on; the kit's are named together."""
+    readme = dict(re.findall(r"^\| `(\w+)` \| ([^|]*)\|", read("README.md"), re.M))
+    for crate, on in listed.items():
+        if crate not in readme:
+            faults.append(f"README.md has no row for the crate {crate}")
+        elif re.findall(r"`(\w+)`", readme[crate]) != [d for d in on if d in listed]:
+            faults.append(f"README.md does not say what the crate {crate} stands on as crates.txt does")
 
 
 def check_paths():
@@ -275,6 +308,7 @@ def main():
     check_paths()
     check_rules()
     check_comments(listed)
+    faults.extend(edits.faults())
     for fault in faults:
         print(fault)
     print(f"documents: {len(listed)} crates, {len(faults)} faults")

@@ -1,12 +1,12 @@
 // `bench_rounds`: does what `panel` does, as many times over as its argument says (once without one), and writes the last text.
 // bench/run times it.
+use blank_lists::blank_panel_text;
+use blank_lists::blank_sheet;
+use outside::number_asked;
+use outside::write_text;
 use run::texts::panel_text;
-use run_text::blank::blank_panel_text;
-use sheet_files::blank_sheet;
-use sheet_files::number_asked;
 use sheet_files::read_sheet;
-use sheet_files::write_text;
-use text::printed::Printed;
+use told::Printed;
 
 // The same text again and again into the same list; the last one's length, 0 for no round.
 fn text_in_rounds<'a>(rounds: usize, site: &'a [u8], steps: &'a [u8], out: &'a mut [u8]) -> usize {

@@ -10,14 +10,14 @@ use native.Mathlib.Omega.{arith}
 use borrow.Author.Tests.{eqb-true, ltb-true}
 use lib.ListN.{getD}
 use lib.Dec.{eqb, ltb}
-use Rattle.tables.specs.Tables.{mayBe, orElse, andAlso, mostLocations}
+use Rattle.tables.specs.Tables.{rightAt, mayBe, orElse, andAlso, mostLocations}
 use Rattle.tables.specs.Way.{Way, outside, onward, wayOf}
 use Rattle.tables.specs.Rules.{SafeWay}
 use Rattle.tables.proofs.Laws.{and-left, and-right, clash, may-be-outside}
 use Rattle.tables.proofs.WayOut.{way-is-safe}
 use Rattle.record.specs.declared.record.Record.{Record}
 use Rattle.record.specs.Doors.{planOf}
-use Rattle.record.specs.Sound.{Sound, rightAt}
+use Rattle.record.specs.Sound.{Sound}
 use Rattle.tables.proofs.Cases.{same-or-not, below-or-not}
 use Rattle.chapter.specs.Sets.{Set, only, _∖_, _⊆_}
 use Rattle.chapter.specs.Context.{Constants, Axioms, SAF-1, SAF-2, SAF-3, Leads}

@@ -21,7 +21,7 @@ use Rattle.phases.specs.declared.table.Kind.{Kind}
 use Rattle.phases.specs.declared.table.Kind.the-variants.{Card, Decide, Green, Red, Walk, Tick, Passed, Lapsed, Dark, Ack, Unknown}
 use Rattle.phases.specs.declared.answer.Answer.the-variants.{Done}
 use Rattle.record.specs.declared.steps.Step.{Step}
-use Rattle.phases.specs.declared.answer.WayAnswer.the-variants.{Length}
+use Rattle.asked.specs.declared.WayAnswer.the-variants.{Length}
 use Rattle.phases.specs.Phase.{free, read, granted, green, walked, expired, denied, red, dimmed, closed, greenSpan, redSpan}
 use Rattle.record.specs.Doors.{planOf, doorOf, Shaped}
 use Rattle.phases.specs.Kinds.{StepRow, allows, namesPerson}
@@ -36,8 +36,7 @@ use Rattle.tables.proofs.Cases.{either}
 use Rattle.record.proofs.Ask.{place-is-location, way-out-safe}
 use Rattle.record.proofs.Right.{admitted}
 use Rattle.record.proofs.Tells.{sound-tells}
-use Rattle.record.proofs.Laws.{done-did, barred-12, act-done, becomes, door-after, sound-stays, shaped-stays, plan-stays, rights-stay, run-sound, run-shaped, run-plan, run-rights}
-use Rattle.record.proofs.Laws.{denied-first, granted-exactly, green-burns, green-expires, red-burns, red-dims}
+use Rattle.record.proofs.Laws.{done-did, barred-12, act-done, becomes, door-after, sound-stays, shaped-stays, plan-stays, rights-stay, run-sound, run-shaped, run-plan, run-rights, denied-first, granted-exactly, green-burns, green-expires, red-burns, red-dims}
 use Rattle.verdict.specs.declared.Verdict.the-variants.{Accepted}
 use Rattle.grammar.specs.Sizes.{limit}
 use Rattle.site_sheet.specs.Draft.{planIn}
@@ -48,7 +47,7 @@ use Rattle.chapter.specs.M4 as m4
 use Rattle.chapter.specs.Reading.{constantsOf, stateOf}
 use Rattle.chapter.specs.Panel.{StartOfEach}
 use Rattle.demands.specs.DemandTwo.{WayAsked, WayOutside, StepIsEvent, Light, Decided, SameTables, NothingToAlter, no-light, green-whole, red-whole, CountsDown}
-use Rattle.demands.proofs.DemandOne.{of-record}
+use Rattle.record_answers.proofs.Record.{of-record}
 use Rattle.card_by_card.proofs.Serial.{step-done, put-as-is}
 
 -- ---- the way outside

@@ -1,13 +1,14 @@
 -- The theorems of the panel, each under the letter's words. What each says is a record of named facts in `specs/`, a fact for each
 -- function or sentence with the papers' line beside it:
---     demand-1          `specs/DemandOne.antt`
+--     demand-1          `specs/DemandOne.antt`, with `sheet_answers/specs/Answers.antt`, `table_answers/specs/Answers.antt` and
+--                       `record_answers/specs/Answers.antt`
 --     demand-2          `specs/DemandTwo.antt`
 --     demand-3          `card_by_card/specs/Served.antt`, by `card_by_card/specs/Serving.antt`
 --     demand-3-printed  `specs/Bytes.antt`
 --     put-by-passages, refused-moves-nobody         `card_by_card/specs/Warden.antt`
 --     walks-out         `card_by_card/specs/Leaving.antt`
---     answers-unique    `specs/Unique.antt`
---     twelve-cases      `specs/Cases.antt`
+--     answers-unique    `specs/Unique.antt`, with specs/Unique.antt of the same three crates
+--     twelve-cases      `paper_cases/specs/Cases.antt`
 -- They speak of the definitions that the promises in `src/` of each crate cite, so that they hold of the code. Assume nothing.
 use Prim.Native.Nat.{ℕ, _<_}
 use mathlib.Core.Path.{_≡_}
@@ -30,20 +31,29 @@ use Rattle.demands.specs.Bytes.{PrintedAsServed}
 use Rattle.card_by_card.specs.Warden.{PutByPassages, RefusedMovesNobody}
 use Rattle.card_by_card.specs.Leaving.{WalksOut}
 use Rattle.demands.specs.Unique.{AnswersUnique}
-use Rattle.demands.specs.Cases.{TwelveCases}
-use Rattle.demands.proofs.DemandOne.{of-sheet, of-rules, of-record, of-site}
-use Rattle.demands.proofs.Leaves.{of-tables, of-door, of-sound}
+use Rattle.paper_cases.specs.Cases.{TwelveCases}
+use Rattle.sheet_answers.proofs.Sheets.{of-sheet}
+use Rattle.sheet_answers.proofs.Texts.{of-text}
+use Rattle.sheet_answers.proofs.Unique.{sheet-unique, text-unique}
+use Rattle.table_answers.proofs.Tables.{of-tables, of-rules}
+use Rattle.table_answers.proofs.Doors.{of-door}
+use Rattle.table_answers.proofs.Unique.{tables-unique, rules-unique, door-unique}
+use Rattle.record_answers.proofs.Sound.{of-sound}
+use Rattle.record_answers.proofs.Deeds.{of-deeds, deeds-unique}
+use Rattle.record_answers.proofs.Record.{of-record}
+use Rattle.record_answers.proofs.Enums.{of-enums, enums-unique}
+use Rattle.record_answers.proofs.Unique.{sound-unique, record-unique}
+use Rattle.demands.proofs.DemandOne.{of-site}
 use Rattle.demands.proofs.StepsSheet.{of-steps}
-use Rattle.demands.proofs.Texts.{of-text, of-run}
+use Rattle.demands.proofs.Texts.{of-run}
 use Rattle.demands.proofs.DemandTwo.{way-of, after-steps, asks-after, is-event, decided, starts, tables-stay, run-tables-stay, alters, green-ordered, red-ordered, green-counts, red-counts}
 use Rattle.demands.proofs.Bytes.{printed-as-served}
 use Rattle.card_by_card.proofs.DemandThree as three
 use Rattle.card_by_card.proofs.Warden as warden
 use Rattle.card_by_card.proofs.Leaving as leaving
-use Rattle.demands.proofs.Accepted.{accepted-fresh}
-use Rattle.demands.proofs.Unique.{sheet-unique, text-unique, tables-unique, rules-unique, door-unique, sound-unique, record-unique, site-unique, steps-unique, run-unique, papers-unique}
-use Rattle.demands.proofs.Answered.{of-enums, enums-unique}
-use Rattle.demands.proofs.TwelveCases as cases
+use Rattle.paper_cases.proofs.Accepted.{accepted-fresh}
+use Rattle.demands.proofs.Unique.{site-unique, steps-unique, run-unique, papers-unique}
+use Rattle.paper_cases.proofs.TwelveCases as cases
 
 -- "1. Any sheet of text, any record, any number for a door or a person: the panel ends, and acts or refuses by a number from the
 -- papers. A refusal alters no record and no list lent to it."
@@ -56,6 +66,7 @@ demand-1 =
       of-rules = of-rules;
       of-door = of-door;
       of-sound = of-sound;
+      of-deeds = of-deeds;
       of-record = of-record;
       of-enums = of-enums;
       of-site = of-site;
@@ -130,6 +141,7 @@ answers-unique =
       of-rules = rules-unique;
       of-door = door-unique;
       of-sound = sound-unique;
+      of-deeds = deeds-unique;
       of-record = record-unique;
       of-enums = enums-unique;
       of-site = site-unique;

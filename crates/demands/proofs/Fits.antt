@@ -1,12 +1,15 @@
 -- Every text that the two programs print fits into the list that they lend: what is told of a step is short. Assumes nothing.
-use Prim.Native.Nat.{ℕ, suc, _+_, _-_, _*_, _≤_, _<_}
+use Prim.Native.Nat.{ℕ, suc, _+_, _*_, _≤_, _<_}
 use mathlib.Core.Path.{_≡_, refl, ap}
 use mathlib.Core.Bool.{Bool, true, false}
 use mathlib.Core.List.{List, [], _∷_}
 use native.Mathlib.Omega.{arith}
 use borrow.Author.Tests.{ltb-true, ltb-false}
-use lib.Dec.{ltb}
+use lib.Dec.{eqb, ltb}
 use lib.ListN.{length, getD, length-append}
+use Rattle.tables.specs.Tables.{Plan, mayBe}
+use Rattle.granting.specs.Grants.{hasGrant}
+use Rattle.granting.specs.Reasons.{firstReason}
 use Rattle.record.specs.declared.record.Record.{Record}
 use Rattle.door.specs.declared.Door.{Door}
 use Rattle.phases.specs.declared.table.Kind.{Kind}
@@ -24,8 +27,8 @@ use Rattle.record.specs.Steps.{act, exist, soundStep, stepOf}
 use Rattle.record.specs.Run.{rowOf, repliesOf}
 use Rattle.tables.proofs.Cases.{either}
 use Rattle.record.proofs.Laws.{sound-stays, shaped-stays}
-use Rattle.demands.specs.DemandOne.{DoesTold}
-use Rattle.demands.proofs.Leaves.{effect-told, reason-small}
+use Rattle.table_answers.specs.Answers.{IsReason, none, away, barred, busy, DoesTold}
+use Rattle.table_answers.proofs.Doors.{effect-told}
 use Rattle.text.specs.Text.{rowOfNumbers}
 use Rattle.run_text.specs.Printed.{panelRow, answerRows, placeRows}
 use Rattle.text.proofs.Decimal.{one-digit, two-digits, four-digits}
@@ -45,10 +48,25 @@ pub record ToldShort (s : Step) : Type 0 where
   pub phase-short : s .phase ≤ 9
   pub reason-short : s .reason ≤ 3
 
+-- the reason told is one of the four
+a-reason : (site : Plan) (right : List Bool) (place phase holder : List ℕ) (d p : ℕ) → IsReason (firstReason site right place phase holder d p)
+unfolding firstReason
+a-reason site right place phase holder d p =
+    either IsReason (eqb (getD place p 0) (getD (site .origin) d 0))
+    (λ _. either IsReason (mayBe right p (getD (site .destination) d 0))
+    (λ _. either IsReason (hasGrant (site .doors) phase holder p) (λ _. busy) (λ _. none)) (λ _. barred)) (λ _. away)
+
+-- a reason is a digit up to 3
+small : {n : ℕ} → IsReason n → n ≤ 3
+small none = omega arith
+small away = omega arith
+small barred = omega arith
+small busy = omega arith
+
 act-small : (r : Record) (k : Kind) (d : ℕ) (does : Does) → getD (r .phase) d 0 ≤ 9 → DoesTold k (doorOf r d) does → ToldShort (act r d does)
 unfolding act
 act-small r k d Stays h m = record { phase-short = h; reason-short = omega arith }
-act-small r k d (Turns c why) h m = record { phase-short = m .1; reason-short = m .2 }
+act-small r k d (Turns c why) h m = record { phase-short = m .1; reason-short = small (m .2) }
 act-small r k d (Moves c) h m =
     let is = ap (λ (x : Door). x .phase) (m .1) in record { phase-short = omega arith; reason-short = omega arith }
 
@@ -58,7 +76,7 @@ told-short r s k d p =
     either ToldShort (soundB r)
     (λ _. either ToldShort (exist r k d p)
     (λ _. either ToldShort (allows k (getD (r .phase) d 0))
-    (λ _. act-small r k d _ (phase-known r s d) (effect-told k p _ (doorOf r d) (reason-small (planOf r) (r .right) (r .place) (r .phase) (r .holder) d (getD (r .holder) d 0)) (phase-known r s d)))
+    (λ _. act-small r k d _ (phase-known r s d) (effect-told k p _ (doorOf r d) (a-reason (planOf r) (r .right) (r .place) (r .phase) (r .holder) d (getD (r .holder) d 0)) (phase-known r s d)))
     (λ _. record { phase-short = phase-known r s d; reason-short = omega arith }))
     (λ _. record { phase-short = omega arith; reason-short = omega arith }))
     (λ _. record { phase-short = omega arith; reason-short = omega arith })

@@ -1,4 +1,5 @@
--- Demand 1 for the crate `steps`: what the beginning of a steps sheet is, and its steps in lent lists. Assumes nothing.
+-- Demand 1 for the functions over a steps sheet: what a row says, what the sheet's beginning is, and its steps in lent lists. Assumes
+-- nothing.
 use Prim.Native.Nat.{ℕ}
 use mathlib.Core.Path.{_≡_, refl}
 use mathlib.Core.Bool.{Bool, true, false}
@@ -11,7 +12,7 @@ use Rattle.tables.proofs.Laws.{clash, tell-and, tell-as, tell-le}
 use Rattle.grammar.specs.Sizes.{limit}
 use Rattle.phases.specs.declared.answer.Answer.the-variants.{Done, TooShort}
 use Rattle.steps_sheet.specs.Lent.{roomForSteps, stepsRoomIn, decodedOf, listed}
-use Rattle.steps_sheet.proofs.Theorems.{steps-exactly, heading-exactly}
+use Rattle.steps_sheet.proofs.Theorems.{step-exactly, bad-exactly, steps-exactly, heading-exactly}
 use Rattle.demands.specs.DemandOne.{StepsRoom, DecodeTells, StepsAnswers}
 
 room-tells : (s kinds doors persons : List ℕ) → Tells (stepsRoomIn s kinds doors persons) (StepsRoom (length s) kinds doors persons)
@@ -42,4 +43,4 @@ decode-tells s from kinds doors persons = go (stepsRoomIn s kinds doors persons)
         }
 
 pub of-steps : StepsAnswers
-of-steps = record { heading-of = heading-exactly limit; decode = decode-tells }
+of-steps = record { line-of = λ s cells r h. record { a-step = step-exactly s r h; bad = bad-exactly s r h }; heading-of = heading-exactly limit; decode = decode-tells }

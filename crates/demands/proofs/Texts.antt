@@ -1,15 +1,13 @@
--- Demand 1 for the crates `text` and `run`: a text in a lent list, and the two texts. Assumes nothing.
+-- Demand 1 of the two texts: no text is too long for the list that its program lends. Assumes nothing.
 use Prim.Native.Nat.{ℕ, _+_, _≤_, _<_}
 use mathlib.Core.Path.{_≡_, refl, sym, ap, _∙_}
 use mathlib.Core.Bool.{Bool, true, false, true≢false, cond}
-use mathlib.Core.List.{List, [], _∷_, _++_}
-use mathlib.Core.Logic.{inl, inr}
+use mathlib.Core.List.{List, [], _++_}
 use native.Mathlib.Omega.{arith}
 use borrow.Author.Tests.{eqb-true, leb-true, leb-false}
 use lib.Dec.{eqb, leb}
-use native.Mathlib.Nat.{zero-add}
-use lib.ListN.{length, getD, take, drop, replicate, length-append, length-replicate}
-use lib.Seq.{length-sets, sets-eq, getD-take, length-take-le}
+use lib.ListN.{length, getD, take, replicate, length-append, length-replicate}
+use lib.Seq.{getD-take, length-take-le}
 use Rattle.tables.specs.Tables.{Plan, mostPeople, mostLocations}
 use Rattle.record.specs.declared.record.Record.{Record}
 use Rattle.record.specs.Doors.{Shaped}
@@ -25,74 +23,17 @@ use Rattle.steps_sheet.specs.declared.Heading.{Heading}
 use Rattle.steps_sheet.specs.declared.Heading.the-variants as heading
 use Rattle.steps_sheet.specs.Steps.{headingOf, stepsFrom}
 use Rattle.steps_sheet.proofs.Theorems.{few-steps, headed-short}
-use Rattle.text.specs.declared.printed.Printed.{Printed}
-use Rattle.text.specs.declared.printed.Printed.the-variants.{Text, TooShort}
-use Rattle.text.specs.Wrote.{Wrote}
-use Rattle.text.specs.Wrote as wrote
-use Rattle.text.specs.Printed.{fitsIn, printedOf, written, Prints, printedNo}
-use Rattle.text.proofs.Writing.{sets-past}
-use Rattle.text.proofs.Decimal.{decimal-some}
-use Rattle.text.proofs.Rows.{row-some}
-use Rattle.run_text.specs.Printed.{panelHeader, whereHeader, panelRow, answerRows, lastRow, runText, aloneText, ranText, stepsText, panelText}
-use Rattle.run_text.specs.Printed.{placeRows, placesText, recordText, lastRecord, whereText, mostPanelText, mostWhereText}
+use Rattle.told.specs.declared.Printed.the-variants.{Text}
+use Rattle.text.specs.Printed.{printedOf}
+use Rattle.run_text.specs.Printed.{panelHeader, whereHeader, panelRow, answerRows, lastRow, runText, aloneText, ranText, stepsText, panelText, placeRows, placesText, recordText, lastRecord, whereText}
+use Rattle.blank_lists.specs.{mostPanelText, mostWhereText}
 use Rattle.run_text.proofs.Serving.{replies-length}
 use Rattle.run_text.proofs.Sheets.{zero-accepted}
-use Rattle.demands.specs.DemandOne.{TextWritten, TextTells, TextAnswers, RunAnswers}
-use Rattle.demands.specs.Telling.{OneOf}
-use Rattle.demands.proofs.DemandOne.{number-most, no-right-past}
+use Rattle.sheet_answers.proofs.Texts.{printed-tells, text-tells}
+use Rattle.table_answers.proofs.Tables.{no-right-past}
+use Rattle.demands.specs.DemandOne.{RunAnswers}
+use Rattle.demands.proofs.DemandOne.{number-most}
 use Rattle.demands.proofs.Fits.{row-short, rows-short, places-short}
-
-defined : (text out : List ℕ) → TextTells text out (printedOf text out) (written text out)
-unfolding printedOf written fitsIn
-defined text out = go (leb (length text) (length out)) refl
-  where
-    go : (q : Bool) → leb (length text) (length out) ≡ q → TextTells text out (printedOf text out) (written text out)
-    go true q =
-        let h = leb-true (length text) (length out) q in
-        record {
-          number = inr (h, rw q);
-          a-length = λ _. rw q;
-          in-front = λ _. rw q (sets-eq text out 0 (omega arith) ∙ ap (λ (k : ℕ). text ++ drop k out) (zero-add (length text)));
-          unaltered = λ l. absurd (omega arith);
-        }
-    go false q =
-        let h = leb-false (length text) (length out) q in
-        record {
-          number = inl ((λ l. absurd (omega arith)), rw q);
-          a-length = λ l. absurd (omega arith);
-          in-front = λ l. absurd (omega arith);
-          unaltered = λ _. rw q;
-        }
-
-text-tells : {text out : List ℕ} {told : Printed} {after : List ℕ} → Prints text out told after → TextTells text out told after
-text-tells {text} {out} w = rw (w .answer, w .list) (defined text out)
-
-a-text-number : (p : Printed) → OneOf (0 ∷ 13 ∷ []) (printedNo p)
-a-text-number (Text n) = inl refl
-a-text-number TooShort = inr (inl refl)
-
-written-told : {list : List ℕ} {at : ℕ} {text after : List ℕ} {next : ℕ} → Wrote list at text after next → TextWritten list at text after next
-unfolding wrote.behind
-written-told {list} {at} {text} w =
-    let p = w .place in
-    record {
-      as-long = rw (w .list) (length-sets list at text);
-      within = λ h. w .list ∙ sets-eq text list at h;
-      past = λ h. w .list ∙ sets-past list at text h;
-      behind = λ h. omega arith;
-    }
-
-pub of-text : TextAnswers
-of-text =
-    record {
-      put = λ list at byte after next w. written-told w;
-      put-bytes = λ list at bytes after next w. written-told w;
-      put-number = λ list at n after next w. (written-told w, decimal-some n);
-      put-row = λ list at first numbers after next w. (written-told w, row-some first numbers);
-      printed-number = a-text-number;
-    }
-
--- ---- every text fits into the list that its program lends
 
 alone-fits : (n : ℕ) → n ≤ 10 → length (aloneText n) ≤ mostPanelText
 unfolding aloneText
@@ -174,7 +115,7 @@ blank-long : (n : ℕ) → length {A = ℕ} (replicate n 0) ≡ n
 blank-long n = length-replicate {A = ℕ} n 0
 
 in-blank : {most : ℕ} (text : List ℕ) → length text ≤ most → printedOf text (replicate most 0) ≡ Text (length text)
-in-blank {most} text h = let l = blank-long most in defined text (replicate most 0) .a-length (omega arith)
+in-blank {most} text h = let l = blank-long most in printed-tells text (replicate most 0) .a-length (omega arith)
 
 no-more-written : (list : List ℕ) (n : ℕ) → cond (leb n (length list)) n 0 ≤ length list
 no-more-written list n = either (λ (m : ℕ). m ≤ length list) (leb n (length list)) (λ h. leb-true n (length list) h) (λ _. omega arith)

@@ -15,7 +15,7 @@ use Rattle.phases.specs.declared.table.Kind.{Kind}
 use Rattle.phases.specs.declared.table.Kind.the-variants.{Decide, Green, Red, Tick}
 use Rattle.phases.specs.declared.answer.Answer.the-variants.{Done, NotAllowed}
 use Rattle.record.specs.declared.steps.Step.{Step}
-use Rattle.phases.specs.declared.answer.WayAnswer.the-variants.{Length}
+use Rattle.asked.specs.declared.WayAnswer.the-variants.{Length}
 use Rattle.phases.specs.Phase.{granted, green, expired, denied, red, dimmed, greenSpan, redSpan}
 use Rattle.door.specs.Door.{door}
 use Rattle.record.specs.Doors.{planOf, doorOf, Shaped}
@@ -38,8 +38,8 @@ use Rattle.chapter.specs.Whole.{Chapter}
 use Rattle.chapter.specs.Reading.{constantsOf, stateOf, StandsFor, Enabled, Idle, FirstFailing}
 use Rattle.chapter.specs.Panel.{StartOfEach, OneMove, RunOfEach, Live}
 use Rattle.run_events.specs.Lines.{heardOf}
-use Rattle.demands.specs.Cases.{freshSite}
-use Rattle.demands.specs.WholeRun.{runOf01, rowsHeard}
+use Rattle.paper_cases.specs.Cases.{freshSite}
+use Rattle.paper_cases.specs.WholeRun.{runOf01, rowsHeard}
 
 -- ---- the way outside
 

@@ -7,9 +7,9 @@ pub mod does;
 mod fits;
 pub mod phase;
 
+use lists::byte_at;
+use lists::word_at;
 use phases::phase::Phase;
-use tables::lists::byte_at;
-use tables::lists::word_at;
 
 // What the record keeps of one door.
 pub struct Door {

@@ -7,8 +7,8 @@ use native.Mathlib.Omega.{arith}
 use borrow.Author.Tests.{eq-eqb, eqb-true}
 use lib.ListN.{getD}
 use Rattle.tables.specs.Below.{leastBelow, isNothing}
-use Rattle.tables.specs.declared.Found.{Found}
-use Rattle.tables.specs.declared.Found.the-variants.{At, Nothing}
+use Rattle.told.specs.declared.Found.{Found}
+use Rattle.told.specs.declared.Found.the-variants.{At, Nothing}
 use Rattle.tables.proofs.Laws.{and-left, and-right, and-both, clash, least-none, none-least, least-at, at-least, denied as untrue}
 use Rattle.phases.specs.Phase.{grants}
 use Rattle.granting.specs.Grants.{GrantAt, grantsTo, grantOf, hasGrant}
@@ -59,12 +59,21 @@ module _ (n : ℕ) (phase holder : List ℕ) (p : ℕ) where
       go true e = refl
       go false e = absurd (no-grant e d g)
 
-  -- the door that holds one is found where no other does
-  pub grant-is : (d : ℕ) → GrantAt n phase holder p d → ((e : ℕ) → GrantAt n phase holder p e → (e ≡ d → ⊥) → ⊥) → grantOf n phase holder p ≡ At d
+  -- the door that is found is the smallest that holds one,
+  pub found-first : (d : ℕ) → grantOf n phase holder p ≡ At d → (e : ℕ) → e < d → GrantAt n phase holder p e → ⊥
   unfolding grantOf
-  grant-is d g only =
+  found-first d e k lt g = clash (at-grant k g) (least-at (grantsTo phase holder p) n d e .2 k lt)
+
+  -- and the smallest is found
+  pub first-found : (d : ℕ) → GrantAt n phase holder p d → ((e : ℕ) → e < d → GrantAt n phase holder p e → ⊥) → grantOf n phase holder p ≡ At d
+  unfolding grantOf
+  first-found d g none =
       at-least (grantsTo phase holder p) n d (g .exists) (at-grant d g)
-      (λ e lt. untrue (grantsTo phase holder p e) (λ t. let h = g .exists in only e (grant-at e (omega arith) t) (λ is. omega arith)))
+      (λ e lt. untrue (grantsTo phase holder p e) (λ t. let h = g .exists in none e lt (grant-at e (omega arith) t)))
+
+  -- so is one that holds it where no other does
+  pub grant-is : (d : ℕ) → GrantAt n phase holder p d → ((e : ℕ) → GrantAt n phase holder p e → (e ≡ d → ⊥) → ⊥) → grantOf n phase holder p ≡ At d
+  grant-is d g only = first-found d g (λ e lt h. only e h (λ is. omega arith))
 
   pub no-door : ((d : ℕ) → GrantAt n phase holder p d → ⊥) → grantOf n phase holder p ≡ Nothing
   unfolding grantOf

@@ -1,2 +1,3 @@
--- `Numbers`: the papers' numbers, each under one name.
+-- `Numbers`: the papers' numbers, each under one name. `Telling`: how the demands speak of an answer.
 pub mod Numbers
+pub mod Telling

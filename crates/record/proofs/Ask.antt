@@ -11,17 +11,17 @@ use native.Mathlib.Omega.{arith}
 use borrow.Author.Tests.{eqb-true, ltb-true, lt-ltb}
 use lib.ListN.{getD}
 use lib.Dec.{eqb, ltb}
-use Rattle.tables.specs.Tables.{mayBe, orElse, andAlso, mostLocations}
+use Rattle.tables.specs.Tables.{rightAt, mayBe, orElse, andAlso, mostLocations}
 use Rattle.tables.specs.Way.{wayOf}
 use Rattle.tables.specs.Rules.{SafeWay}
 use Rattle.tables.proofs.Laws.{clash, and-left, and-right}
 use Rattle.tables.proofs.WayOut.{way-is-safe}
 use Rattle.record.specs.declared.record.Record.{Record}
-use Rattle.phases.specs.declared.answer.PlaceAnswer.the-variants as place
-use Rattle.phases.specs.declared.answer.GrantAnswer.the-variants as grant
+use Rattle.asked.specs.declared.PlaceAnswer.the-variants as place
+use Rattle.asked.specs.declared.GrantAnswer.the-variants as grant
 use Rattle.record.specs.Doors.{planOf, Shaped}
 use Rattle.granting.specs.Grants.{GrantAt}
-use Rattle.record.specs.Sound.{rightAt, Sound}
+use Rattle.record.specs.Sound.{Sound}
 use Rattle.record.specs.Questions.{placeOf, grantedTo}
 use Rattle.tables.proofs.Cases.{below-or-not}
 use Rattle.granting.proofs.Granting.{grant-is, no-door}

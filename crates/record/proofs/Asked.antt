@@ -7,24 +7,25 @@ use mathlib.Core.List.{List}
 use lib.ListN.{length, getD}
 use lib.Dec.{ltb, leb}
 use Rattle.numbers.specs.Numbers.{doneNo, noSuchNo, unsoundNo}
-use Rattle.tables.specs.Way.{wayOf, wayToldIn, ifRoom, wayToldNo}
-use Rattle.tables.specs.declared.Found.{Found}
-use Rattle.tables.specs.declared.Found.the-variants as found
-use Rattle.tables.specs.declared.WayTold.the-variants as way
+use Rattle.tables.specs.Way.{wayOf, wayToldIn, ifRoom}
+use Rattle.told.specs.Told.{wayToldNo}
+use Rattle.told.specs.declared.Found.{Found}
+use Rattle.told.specs.declared.Found.the-variants as found
+use Rattle.told.specs.declared.WayTold.the-variants as way
 use Rattle.granting.specs.Grants.{grantOf}
 use Rattle.record.specs.declared.record.Record.{Record}
-use Rattle.phases.specs.declared.answer.PlaceAnswer.{PlaceAnswer}
-use Rattle.phases.specs.declared.answer.PlaceAnswer.the-variants as place
-use Rattle.phases.specs.declared.answer.GrantAnswer.{GrantAnswer}
-use Rattle.phases.specs.declared.answer.GrantAnswer.the-variants as grant
-use Rattle.phases.specs.declared.answer.WayAnswer.{WayAnswer}
-use Rattle.phases.specs.declared.answer.WayAnswer.the-variants as answer
+use Rattle.asked.specs.declared.PlaceAnswer.{PlaceAnswer}
+use Rattle.asked.specs.declared.PlaceAnswer.the-variants as place
+use Rattle.asked.specs.declared.GrantAnswer.{GrantAnswer}
+use Rattle.asked.specs.declared.GrantAnswer.the-variants as grant
+use Rattle.asked.specs.declared.WayAnswer.{WayAnswer}
+use Rattle.asked.specs.declared.WayAnswer.the-variants as answer
 use Rattle.record.specs.SoundTest.{soundB}
 use Rattle.record.specs.Questions.{askedNo, unlessRefused, placeOf, grantFound, grantedTo}
-use Rattle.phases.specs.Answers.{lengthTold, wayNo, grantTold}
-use Rattle.phases.specs.Answers.{grantNo}
-use Rattle.phases.specs.Answers.{placeTold}
-use Rattle.phases.specs.Answers.{placeNo}
+use Rattle.asked.specs.Asked.{lengthTold, wayNo, grantTold}
+use Rattle.asked.specs.Asked.{grantNo}
+use Rattle.asked.specs.Asked.{placeTold}
+use Rattle.asked.specs.Asked.{placeNo}
 use Rattle.record.specs.Questions.{wayFound, wayAnswerOf, wayWritten, wayAskedNo}
 
 pub place-as-said : (r : Record) (p : ℕ) (x : PlaceAnswer) → x ≡ placeOf r p

@@ -1,86 +1,66 @@
--- A step on lent lists: what the tests of `judge` tell, and what `judge` asks of the lists. Assumes nothing.
-use Prim.Native.Nat.{ℕ, _≤_, _<_}
-use mathlib.Core.Path.{_≡_, refl, sym, ap, _∙_}
-use mathlib.Core.Bool.{Bool, true, false, not}
-use mathlib.Core.List.{[]}
+-- A step on lent lists: for a sound record the deed that is judged, carried out, is the step. Assumes nothing.
+use Prim.Native.Nat.{ℕ, _≤_}
+use mathlib.Core.Path.{_≡_, refl, ap, _∙_}
+use mathlib.Core.Bool.{Bool, true, false, cond}
+use mathlib.Core.List.{List}
 use mathlib.Core.Logic.{⊎-elim}
 use native.Mathlib.Omega.{arith}
-use borrow.Author.Tests.{ltb-true, not-true, not-false}
+use borrow.Author.Tests.{le-ltb}
 use lib.ListN.{length, getD}
-use lib.Dec.{ltb}
-use Rattle.tables.specs.Tables.{plan, orElse, mostPeople}
-use Rattle.tables.proofs.Laws.{and-right}
-use Rattle.door.specs.declared.Door.{Door}
-use Rattle.record.specs.declared.record.Record.{Record}
-use Rattle.phases.specs.declared.table.Kind.{Kind}
-use Rattle.phases.specs.declared.table.Kind.the-variants.{Card, Decide, Green, Red, Walk, Tick, Passed, Lapsed, Dark, Ack, Unknown}
-use Rattle.phases.specs.declared.answer.Answer.the-variants.{NoSuch, NotAllowed}
-use Rattle.record.specs.declared.steps.Deed.{Deed}
-use Rattle.record.specs.declared.steps.Step.{Step}
-use Rattle.phases.specs.Phase.{closed}
-use Rattle.record.specs.Doors.{recordOf, doorOf}
-use Rattle.phases.specs.Table.{asked}
-use Rattle.record.specs.Sound.{Sound}
-use Rattle.door.specs.Does.{effect}
-use Rattle.record.specs.Steps.{reasonFor, act, refused, exist, soundStep}
-use Rattle.record.specs.Deeds.{carried, Known}
+use Rattle.tables.specs.Tables.{mostPeople}
 use Rattle.tables.proofs.Cases.{below-or-not}
+use Rattle.phases.specs.declared.table.Kind.{Kind}
+use Rattle.phases.specs.declared.answer.Answer.the-variants.{NoSuch, NotAllowed}
+use Rattle.phases.specs.Kinds.{allows}
+use Rattle.phases.specs.Phase.{closed}
 use Rattle.phases.proofs.Entries.{table-allows}
+use Rattle.door.specs.declared.Door.{Door}
+use Rattle.door.specs.declared.does.Does.{Does}
+use Rattle.door.specs.declared.does.Does.the-variants.{Stays, Turns, Moves}
+use Rattle.deeds.specs.declared.Deed.{Deed}
+use Rattle.deeds.specs.declared.Deed.the-variants.{Tells}
+use Rattle.deeds.specs.declared.Told.{Told}
+use Rattle.deeds.specs.Deeds.{deedOf, judgedOf, toldOf, placesAfter, phasesAfter, holdersAfter, countsAfter}
+use Rattle.deeds.specs.Deeds as lists
+use Rattle.record.specs.declared.record.Record.{Record}
+use Rattle.record.specs.Sound.{Sound}
+use Rattle.record.specs.Steps.{act, refused, exist, doing, soundStep}
+use Rattle.record.specs.Deeds.{holding, telling, judged, carried}
 
--- a sound record's lists are as `judge` asks
-pub known : (r : Record) → length (r .place) ≡ mostPeople → Sound r → Known (r .people) (r .phase)
-known r long s =
-    record {
-      room = let room = s .tables .in-range .people-to in omega arith;
-      phases =
-          λ d.
-          ⊎-elim (λ h. s .doors d h .known)
-          (λ h. let is : getD (r .phase) d 0 ≡ 0 = ap (λ (x : Door). x .phase) (s .zero-doors d h) in omega arith) (below-or-not d (r .doors));
-    }
+-- the phases of a sound record's doors are those of the table
+known : (r : Record) → Sound r → (d : ℕ) → getD (r .phase) d 0 ≤ closed
+known r s d =
+    ⊎-elim (λ h. s .doors d h .known)
+    (λ h. let is : getD (r .phase) d 0 ≡ 0 = ap (λ (x : Door). x .phase) (s .zero-doors d h) in omega arith) (below-or-not d (r .doors))
 
--- only `card` looks at the person, and only `decide` at the reason
-same-effect : (k : Kind) (p q why reason : ℕ) (c : Door) → (k ≡ Card → p ≡ q) → (k ≡ Decide → why ≡ reason) → effect k p why c ≡ effect k q reason c
-unfolding effect
-same-effect Card p q why reason c person is = rw (person refl)
-same-effect Decide p q why reason c person is = rw (is refl)
-same-effect Green p q why reason c person is = refl
-same-effect Red p q why reason c person is = refl
-same-effect Walk p q why reason c person is = refl
-same-effect Tick p q why reason c person is = refl
-same-effect Passed p q why reason c person is = refl
-same-effect Lapsed p q why reason c person is = refl
-same-effect Dark p q why reason c person is = refl
-same-effect Ack p q why reason c person is = refl
-same-effect Unknown p q why reason c person is = refl
+-- what a step does to its door, as a deed, is what it does
+acted : (r : Record) (d : ℕ) (does : Does) → carried r d (deedOf does (getD (r .phase) d 0) (getD (r .holder) d 0) (getD (r .destination) d 0)) ≡ act r d does
+unfolding act
+acted r d Stays = refl
+acted r d (Turns c why) = refl
+acted r d (Moves c) = refl
 
--- the person of a card that exists
-pub card-person : (people doors : ℕ) (k : Kind) (d p : ℕ) (e : Bool) → ((t : Record) → t .people ≡ people → t .doors ≡ doors → e ≡ exist t k d p)
-    → not e ≡ false → k ≡ Card → p < people
-unfolding exist orElse
-card-person people doors k d p e exists some card =
-    let told = exists (recordOf (plan people 0 doors [] [] []) [] [] [] [] []) refl refl in
-    ltb-true p people (rw card at (and-right (ltb d doors) _ (sym told ∙ not-false e some)))
+-- each test of a step is carried along
+chosen : (r : Record) (d : ℕ) (exists allowed : Bool) (deed : Deed) →
+    carried r d (cond exists (cond allowed deed (Tells NotAllowed (getD (r .phase) d 0))) (Tells NoSuch 0))
+    ≡ cond exists (cond allowed (carried r d deed) (refused r NotAllowed (getD (r .phase) d 0))) (refused r NoSuch 0)
+chosen r d true true deed = refl
+chosen r d true false deed = refl
+chosen r d false allowed deed = refl
 
--- ---- what the tests of a step tell: e whether the numbers exist, a what the table says of the door's phase
+pub judged-step : (r : Record) (k : Kind) (d p : ℕ) → length (r .place) ≡ mostPeople → Sound r → carried r d (judged r k d p) ≡ soundStep r k d p
+unfolding judgedOf lists.existAmong exist soundStep
+judged-step r k d p long s =
+    let people : r .people ≤ mostPeople = let most = s .tables .in-range .people-to in omega arith in
+    rw (le-ltb mostPeople (r .people) people, table-allows k (getD (r .phase) d 0) (known r s d))
+    (chosen r d (exist r k d p) (allows k (getD (r .phase) d 0)) (deedOf (doing r k d p) (getD (r .phase) d 0) (getD (r .holder) d 0) (getD (r .destination) d 0)) ∙ rw (acted r d (doing r k d p)))
 
-module _ (r : Record) (k : Kind) (d p : ℕ) (e : Bool) (exists : e ≡ exist r k d p) where
-  pub judged-none : not e ≡ true → refused r NoSuch 0 ≡ soundStep r k d p
-  unfolding soundStep
-  judged-none no-such = rw (← exists, not-true e no-such)
-
-  module _ (some : not e ≡ false) (a : Bool) (now : Door) (is : now ≡ doorOf r d) (fits : getD (r .phase) d 0 ≤ closed) (says : a ≡ asked k (now .phase)) where
-    pub judged-barred : not a ≡ true → refused r NotAllowed (now .phase) ≡ soundStep r k d p
-    unfolding soundStep
-    judged-barred barred =
-        rw (is, ← exists, not-false e some, ← (table-allows k (getD (r .phase) d 0) fits), ← (rw is at says), not-true a barred)
-
-    pub judged-done : not a ≡ false → (q why : ℕ) → (k ≡ Card → q ≡ p) → (k ≡ Decide → why ≡ reasonFor r d (now .holder))
-        → (deed : Deed) → carried r d deed ≡ act r d (effect k q why now) → carried r d deed ≡ soundStep r k d p
-    unfolding soundStep
-    judged-done allowed q why person reason deed does =
-        rw (← exists, not-false e some, ← (table-allows k (getD (r .phase) d 0) fits), ← (rw is at says), not-false a allowed)
-        (does ∙ rw is (ap (act r d) (same-effect k q p why _ (doorOf r d) person (rw is at reason))))
-
--- a deed that is judged so and carried out is the step
-pub stepped : (r : Record) (k : Kind) (d p : ℕ) (deed : Deed) (s : Step) → s ≡ carried r d deed → carried r d deed ≡ soundStep r k d p → s ≡ soundStep r k d p
-stepped r k d p deed s out judged = out ∙ judged
+-- so the lists with a judged deed carried out, and what is told, are the step
+pub stepped : (r : Record) (k : Kind) (d p : ℕ) → length (r .place) ≡ mostPeople → Sound r
+    → (deed : Deed) → deed ≡ judged r k d p → (told : Told) (place phase holder count : List ℕ)
+    → (told ≡ toldOf deed)
+    × ((place ≡ placesAfter deed (r .place))
+    × ((phase ≡ phasesAfter deed d (r .phase)) × ((holder ≡ holdersAfter deed d (r .holder)) × (count ≡ countsAfter deed d (r .count)))))
+    → telling (holding r place phase holder count) told ≡ soundStep r k d p
+stepped r k d p long s deed is told place phase holder count out =
+    rw (out .0, out .1 .0, out .1 .1 .0, out .1 .1 .1 .0, out .1 .1 .1 .1, is) (judged-step r k d p long s)

@@ -4,7 +4,6 @@
 --     Tells      the computed test tells soundness exactly
 --     Deeds      a step on lent lists
 --     Laws       what a step does and what it leaves alone
---     Running    the loop that runs a list of steps
 --     Asked      the questions' answers by the paper's numbers and values
 --     Ask        what the questions tell
 --     Fresh      the fresh record is sound
@@ -13,7 +12,6 @@ pub mod Right
 pub mod Tells
 pub mod Deeds
 pub mod Laws
-pub mod Running
 pub mod Asked
 pub mod Ask
 pub mod Fresh

@@ -9,20 +9,21 @@ use native.Mathlib.Omega.{arith}
 use borrow.Author.Tests.{ltb-true, ltb-false, lt-ltb, le-ltb}
 use lib.ListN.{length, getD, List·getD-eq-default}
 use lib.Dec.{ltb, lit≤}
-use Rattle.tables.specs.Tables.{Plan, mayBe, orElse, andAlso, mostLocations, mostDoors}
+use Rattle.tables.specs.Tables.{Plan, rightAt, mayBe, orElse, andAlso, mostLocations, mostDoors}
 use Rattle.tables.specs.Below.{allBelow, Tells}
 use Rattle.tables.specs.Rules.{Lawful}
 use Rattle.tables.proofs.Answers.{lawful-tells}
-use Rattle.tables.proofs.Laws.{clash, denied as untrue, tell-lt, tell-le, tell-eq, tell-itself, tell-and, tell-all, tell-as}
+use Rattle.tables.proofs.Laws.{clash, denied as untrue, tell-lt, tell-le, tell-eq, tell-itself, tell-and, tell-cond, tell-all, tell-as}
+use Rattle.door.proofs.Fields.{FieldsOk, tell-fields}
 use Rattle.door.specs.declared.Door.{Door}
 use Rattle.record.specs.declared.record.Record.{Record}
 use Rattle.phases.specs.Phase.{closed, keeps, grants, lit, leastCount, mostCount}
 use Rattle.door.specs.Door.{freeDoor}
 use Rattle.record.specs.Doors.{planOf, doorOf, Shaped}
 use Rattle.granting.specs.Grants.{GrantAt, hasGrant}
-use Rattle.record.specs.Sound.{rightAt, ZeroBeyond, Sound}
+use Rattle.record.specs.Sound.{ZeroBeyond, Sound}
 use Rattle.soundness.specs.SoundTest.{zeroAt, zeroFrom, rightFits, rightsFit, placeFits, placesFit, doorFits, doorsFit}
-use Rattle.door.specs.Fits.{holderFits, fieldsFit, isFree}
+use Rattle.door.specs.Fits.{isFree}
 use Rattle.soundness.specs.SoundTest.{grantFits, grantsFit, soleGrant, soleGrants, zeroBeyond, doorsSound, listsSound}
 use Rattle.record.specs.SoundTest.{soundB}
 use Rattle.tables.proofs.Cases.{below-or-not}
@@ -43,12 +44,6 @@ tell-when a t = tell-unless (not a) (λ e. flip a e) (λ e. rw e) t
     flip : (a : Bool) → not a ≡ false → a ≡ true
     flip true e = refl
     flip false e = absurd (true≢false e)
-
--- a choice between two tests
-tell-cond : (a : Bool) {x y : Bool} {N P Q : Type 0} → (a ≡ true → N) → (N → a ≡ true) → Tells x P → Tells y Q
-    → Tells (cond a x y) ((N → P) × ((N → ⊥) → Q))
-tell-cond true f g s t = record { yes = λ e. (λ _. s .yes e, λ n. absurd (n (f refl))); back = λ p. s .back (p .0 (f refl)) }
-tell-cond false f g s t = record { yes = λ e. (λ n. absurd (false≢true (g n)), λ _. t .yes e); back = λ p. t .back (p .1 (λ n. false≢true (g n))) }
 
 tell-fails : (a : Bool) → Tells (not a) (a ≡ false)
 tell-fails true = record { yes = λ e. absurd (false≢true e); back = λ e. absurd (true≢false e) }
@@ -125,19 +120,6 @@ tell-places people right place =
     (λ p h. let z = List·getD-eq-default place 0 h in (λ _. rw z, λ _. z))
 
 -- ---- the doors
-
-abbrev pub FieldsOk : ℕ → Door → Type 0
-FieldsOk people c =
-    (c .phase ≤ closed)
-    × (((keeps (c .phase) ≡ true → c .holder < people) × ((keeps (c .phase) ≡ true → ⊥) → c .holder ≡ 0))
-    × ((leastCount (c .phase) ≤ c .count) × (c .count ≤ mostCount (c .phase))))
-
-pub tell-fields : (people : ℕ) (c : Door) → Tells (fieldsFit people c) (FieldsOk people c)
-unfolding fieldsFit holderFits
-tell-fields people c =
-    tell-and (tell-le (c .phase) closed)
-    (tell-and (tell-cond (keeps (c .phase)) (λ e. e) (λ e. e) (tell-lt (c .holder) people) (tell-eq (c .holder) 0))
-    (tell-and (tell-le (leastCount (c .phase)) (c .count)) (tell-le (c .count) (mostCount (c .phase)))))
 
 tell-free : (c : Door) → Tells (isFree c) (c ≡ freeDoor)
 unfolding isFree

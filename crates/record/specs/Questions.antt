@@ -5,18 +5,19 @@ use mathlib.Core.List.{List}
 use lib.ListN.{getD}
 use lib.Dec.{ltb, eqb}
 use Rattle.numbers.specs.Numbers.{doneNo, noSuchNo, unsoundNo}
-use Rattle.tables.specs.Way.{wayOf, wayToldIn, wayWrittenIn, wayToldNo}
-use Rattle.tables.specs.declared.Found.{Found}
-use Rattle.tables.specs.declared.Found.the-variants as found
-use Rattle.tables.specs.declared.WayTold.{WayTold}
-use Rattle.tables.specs.declared.WayTold.the-variants as way
+use Rattle.tables.specs.Way.{wayOf, wayToldIn, wayWrittenIn}
+use Rattle.told.specs.Told.{wayToldNo}
+use Rattle.told.specs.declared.Found.{Found}
+use Rattle.told.specs.declared.Found.the-variants as found
+use Rattle.told.specs.declared.WayTold.{WayTold}
+use Rattle.told.specs.declared.WayTold.the-variants as way
 use Rattle.record.specs.declared.record.Record.{Record}
-use Rattle.phases.specs.declared.answer.PlaceAnswer.{PlaceAnswer}
-use Rattle.phases.specs.declared.answer.PlaceAnswer.the-variants as place
-use Rattle.phases.specs.declared.answer.GrantAnswer.{GrantAnswer}
-use Rattle.phases.specs.declared.answer.GrantAnswer.the-variants as grant
-use Rattle.phases.specs.declared.answer.WayAnswer.{WayAnswer}
-use Rattle.phases.specs.declared.answer.WayAnswer.the-variants as answer
+use Rattle.asked.specs.declared.PlaceAnswer.{PlaceAnswer}
+use Rattle.asked.specs.declared.PlaceAnswer.the-variants as place
+use Rattle.asked.specs.declared.GrantAnswer.{GrantAnswer}
+use Rattle.asked.specs.declared.GrantAnswer.the-variants as grant
+use Rattle.asked.specs.declared.WayAnswer.{WayAnswer}
+use Rattle.asked.specs.declared.WayAnswer.the-variants as answer
 use Rattle.granting.specs.Grants.{grantOf}
 use Rattle.record.specs.SoundTest.{soundB}
 

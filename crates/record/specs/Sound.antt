@@ -1,10 +1,10 @@
 -- When a record is sound (01, "The record"): one fact for each sentence.
-use Prim.Native.Nat.{ℕ, _+_, _*_, _≤_, _<_}
+use Prim.Native.Nat.{ℕ, _≤_, _<_}
 use mathlib.Core.Path.{_≡_}
 use mathlib.Core.Bool.{Bool, true, false}
 use mathlib.Core.List.{List}
 use lib.ListN.{length, getD}
-use Rattle.tables.specs.Tables.{Plan, mayBe, mostLocations}
+use Rattle.tables.specs.Tables.{Plan, rightAt, mayBe, mostLocations}
 use Rattle.tables.specs.Rules.{Lawful}
 use Rattle.door.specs.declared.Door.{Door}
 use Rattle.record.specs.declared.record.Record.{Record}
@@ -12,10 +12,6 @@ use Rattle.phases.specs.Phase.{closed, keeps, grants, leastCount, mostCount}
 use Rattle.door.specs.Door.{freeDoor}
 use Rattle.record.specs.Doors.{planOf, doorOf}
 use Rattle.granting.specs.Grants.{GrantAt}
-
--- the entry of the rights' table for person p and location l
-abbrev pub rightAt : List Bool → ℕ → ℕ → Bool
-rightAt right p l = getD right (p * mostLocations + l) false
 
 -- "Places beyond the counts are 0, and so are location 0's own exit and rights.": what that says of the tables
 pub record ZeroBeyond (site : Plan) (right : List Bool) : Type 0 where

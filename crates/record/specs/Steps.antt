@@ -11,7 +11,7 @@ use Rattle.phases.specs.declared.answer.Answer.{Answer}
 use Rattle.phases.specs.declared.answer.Answer.the-variants.{Done, NoSuch, NotAllowed, Unsound}
 use Rattle.phases.specs.Answers.{reasonNone, reasonAway, reasonBarred, reasonBusy}
 use Rattle.record.specs.declared.steps.Step.{Step}
-use Rattle.record.specs.declared.steps.Told.{Told}
+use Rattle.deeds.specs.declared.Told.{Told}
 use Rattle.door.specs.declared.does.Does.{Does}
 use Rattle.door.specs.declared.does.Does.the-variants.{Stays, Turns, Moves}
 use Rattle.door.specs.Does.{effect}

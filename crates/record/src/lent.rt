@@ -3,7 +3,7 @@
 ghost use mathlib.Core.Path.{_≡_};
 ghost use Rattle.record.specs.Steps.{stepOf, toldBy};
 use crate::record::Record;
-use crate::steps::Told;
+use deeds::Told;
 use phases::table::Kind;
 
 impl Record {

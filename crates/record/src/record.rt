@@ -4,7 +4,6 @@ ghost use mathlib.Core.Path.{_≡_};
 ghost use Rattle.tables.specs.Tables.{plan};
 ghost use Rattle.record.specs.Doors.{freshRecord};
 ghost use Rattle.record.specs.SoundTest.{soundB};
-ghost use Rattle.record.specs.Deeds.{holding};
 use door::Door;
 use soundness::lists_sound;
 use tables::MOST_DOORS;
@@ -60,23 +59,6 @@ impl Record {
             holder: [holder; MOST_DOORS],
             count: [count; MOST_DOORS],
         }
-    }
-
-    // The record with these places and doors, its tables as they were.
-    pub(crate) fn holding(
-        mut self,
-        place: [u8; MOST_PEOPLE],
-        phase: [u8; MOST_DOORS],
-        holder: [u16; MOST_DOORS],
-        count: [u16; MOST_DOORS],
-    ) -> Record
-        ensures { λ r. ⌜ r ≡ holding self place phase holder count ⌝ }
-    {
-        self.place = place;
-        self.phase = phase;
-        self.holder = holder;
-        self.count = count;
-        self
     }
 
     // Is this record sound?

@@ -2,25 +2,30 @@
 // from a site sheet, and rows may alter any of its fields, so that it meets records that aren't sound. tests/make-record-cases makes
 // the rows, and from the papers' reference what is expected.
 //
-// A row has a word and two numbers. `site` reads a site sheet. The name of a field puts its entry anew, `right` turns a right about. The name
-// of a step does it in four ways: by the method of that name, by `step`, by `step_numbered` and by `run`, from the same record; the
-// record that the first hands back is kept. `short` runs a step with no room for its answer. `sound`, `where`, `granted` and `way` ask.
+// A row has a word and two numbers. `site` reads a site sheet. The name of a field puts its entry anew, `right` turns a right about.
+// The name of a step does it in five ways, from the same record: by `step`, by `step_numbered`, on the record that is lent, by `run`
+// and by the method of that name, whose record is kept. `short` runs a step with no room for its answer. `sound`, `where`, `granted`
+// and `way` ask.
 mod ask;
 mod put;
 mod step;
+mod words;
 mod write;
 
+use ask::ask;
+use blank_lists::blank_sheet;
 use grammar::cut::Cells;
 use grammar::cut::RowCut;
+use put::put;
+use reader::row_at;
 use record::record::Record;
-use sheet::reader::row_at;
-use sheet::say::is_word;
-use sheet_files::blank_sheet;
 use sheet_files::read_sheet;
-use site::read::read_site;
-use step::NO_STEP;
+use site::read_site;
 use step::do_step;
-use step::step_named;
+use words::PEOPLE;
+use words::SITE;
+use words::SOUND;
+use words::word_number;
 use write::number_or_0;
 use write::write_end;
 use write::write_next;
@@ -38,20 +43,6 @@ fn take_site(n: usize) -> Record {
     answer.record
 }
 
-// What a row that is no step says.
-fn other_row(s: &[u8], cells: Cells, a: usize, b: usize, record: Record) -> Record {
-    let word = cells.first;
-    if is_word(s, word, b"site") {
-        return take_site(a);
-    }
-    if ask::asks(s, word, a, b, record) {
-        return record;
-    }
-    let record = put::put_count(s, word, a, record);
-    let record = put::put_table(s, word, a, b, record);
-    put::put_state(s, word, a, b, record)
-}
-
 // Prints a row and does what it says.
 fn take_row(s: &[u8], cells: Cells, record: Record) -> Record {
     write_row(s, cells);
@@ -60,11 +51,18 @@ fn take_row(s: &[u8], cells: Cells, record: Record) -> Record {
     let third = cells.third;
     let a = number_or_0(s, second);
     let b = number_or_0(s, third);
-    let kind = step_named(s, first);
-    if kind < NO_STEP {
-        return do_step(kind, a, b, record);
+    let word = word_number(s, first);
+    if word < SITE {
+        return do_step(word, a, b, record);
     }
-    other_row(s, cells, a, b, record)
+    if word < SOUND {
+        return take_site(a);
+    }
+    if word < PEOPLE {
+        ask(word, a, b, record);
+        return record;
+    }
+    put(word, a, b, record)
 }
 
 // The rows of a sheet, one after the other; there are no more of them than bytes.

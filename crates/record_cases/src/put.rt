@@ -1,25 +1,32 @@
-// The fields of the record, each put anew by its name; a word that names none of them leaves the record as it is.
+// The fields of the record, each put anew; a word that names none of them leaves the record as it is.
 use crate::write::byte;
 use crate::write::word;
-use grammar::cut::Cell;
+use lists::put_byte;
+use lists::put_word;
 use record::record::Record;
-use sheet::say::is_word;
+use tables::MOST_DOORS;
 use tables::MOST_LOCATIONS;
 use tables::MOST_PEOPLE;
-use tables::lists::put_byte;
-use tables::lists::put_word;
 
-pub fn put_count(s: &[u8], field: Cell, n: usize, mut record: Record) -> Record {
-    if is_word(s, field, b"people") {
-        record.people = n;
-    }
-    if is_word(s, field, b"locations") {
-        record.locations = n;
-    }
-    if is_word(s, field, b"doors") {
-        record.doors = n;
-    }
-    record
+// A list with one entry put anew; without it where there is no such entry.
+fn bytes_with(at: usize, n: usize, mut list: [u8; MOST_DOORS]) -> [u8; MOST_DOORS] {
+    put_byte(&mut list, at, byte(n));
+    list
+}
+
+fn words_with(at: usize, n: usize, mut list: [u16; MOST_DOORS]) -> [u16; MOST_DOORS] {
+    put_word(&mut list, at, word(n));
+    list
+}
+
+fn exits_with(at: usize, n: usize, mut list: [u8; MOST_LOCATIONS]) -> [u8; MOST_LOCATIONS] {
+    put_byte(&mut list, at, byte(n));
+    list
+}
+
+fn places_with(at: usize, n: usize, mut list: [u8; MOST_PEOPLE]) -> [u8; MOST_PEOPLE] {
+    put_byte(&mut list, at, byte(n));
+    list
 }
 
 // The record with a person's right to a location turned about.
@@ -35,60 +42,49 @@ fn turn_right(person: usize, location: usize, mut record: Record) -> Record {
     record
 }
 
-pub fn put_table(s: &[u8], field: Cell, at: usize, n: usize, mut record: Record) -> Record {
-    if is_word(s, field, b"origin") {
-        let mut origin = record.origin;
-        put_byte(&mut origin, at, byte(n));
-        record.origin = origin;
-        return record;
-    }
-    if is_word(s, field, b"destination") {
-        let mut destination = record.destination;
-        put_byte(&mut destination, at, byte(n));
-        record.destination = destination;
-        return record;
-    }
-    if is_word(s, field, b"exit") {
-        let mut exit = record.exit;
-        put_byte(&mut exit, at, byte(n));
-        record.exit = exit;
-        return record;
-    }
-    if is_word(s, field, b"right") {
-        return turn_right(at, n, record);
-    }
-    record
-}
-
-pub fn put_state(s: &[u8], field: Cell, at: usize, n: usize, mut record: Record) -> Record {
-    if is_word(s, field, b"place") {
-        let mut place = record.place;
-        put_byte(&mut place, at, byte(n));
-        record.place = place;
-        return record;
-    }
-    if is_word(s, field, b"phase") {
-        let mut phase = record.phase;
-        put_byte(&mut phase, at, byte(n));
-        record.phase = phase;
-        return record;
-    }
-    put_held(s, field, at, n, record)
-}
-
-// The person and the countdown of a door.
-fn put_held(s: &[u8], field: Cell, at: usize, n: usize, mut record: Record) -> Record {
-    if is_word(s, field, b"person") {
-        let mut holder = record.holder;
-        put_word(&mut holder, at, word(n));
-        record.holder = holder;
-        return record;
-    }
-    if is_word(s, field, b"countdown") {
-        let mut count = record.count;
-        put_word(&mut count, at, word(n));
-        record.count = count;
-        return record;
+// The record with a field put anew, or an entry of it, by the number of its word.
+pub fn put(field: u8, a: usize, b: usize, mut record: Record) -> Record {
+    match field {
+        17 => record.people = a,
+        18 => record.locations = a,
+        19 => record.doors = a,
+        20 => {
+            let origin = record.origin;
+            let origin = bytes_with(a, b, origin);
+            record.origin = origin;
+        }
+        21 => {
+            let destination = record.destination;
+            let destination = bytes_with(a, b, destination);
+            record.destination = destination;
+        }
+        22 => {
+            let exit = record.exit;
+            let exit = exits_with(a, b, exit);
+            record.exit = exit;
+        }
+        23 => record = turn_right(a, b, record),
+        24 => {
+            let place = record.place;
+            let place = places_with(a, b, place);
+            record.place = place;
+        }
+        25 => {
+            let phase = record.phase;
+            let phase = bytes_with(a, b, phase);
+            record.phase = phase;
+        }
+        26 => {
+            let holder = record.holder;
+            let holder = words_with(a, b, holder);
+            record.holder = holder;
+        }
+        27 => {
+            let count = record.count;
+            let count = words_with(a, b, count);
+            record.count = count;
+        }
+        _ => (),
     }
     record
 }

@@ -1,10 +1,10 @@
 // What the rows say and what is printed for them: numbers with a comma in front, all on the row's own line.
+use cells::say::number_of;
 use grammar::cut::Cell;
 use grammar::cut::Cells;
 use grammar::say::Number;
 use libc::STDOUT_FILENO;
-use sheet::say::number_of;
-use tables::lists::byte_at;
+use lists::byte_at;
 
 // The number that a field says, 0 for none.
 pub fn number_or_0(s: &[u8], cell: Cell) -> usize {

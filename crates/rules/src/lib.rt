@@ -14,12 +14,12 @@ ghost use Rattle.tables.specs.Way.{unvisited, wayOut, wayOf, wayToldIn, wayWrit
 ghost use Rattle.tables.specs.Tests.{doorInRange, exitInRange, countsFit, planInRange, lacksExit, firstNoExit};
 ghost use Rattle.tables.specs.Tests.{strays, firstStray, joins, lacksDoor, firstNoDoor};
 ghost use Rattle.tables.specs.Tests.{lacksRight, firstNoRight, letsIn, shutOut, firstShutOut, lawfulB};
-use tables::Found;
+use lists::byte_at;
 use tables::MOST_DOORS;
 use tables::MOST_LOCATIONS;
-use tables::RightFound;
-use tables::WayTold;
-use tables::lists::byte_at;
+use told::Found;
+use told::RightFound;
+use told::WayTold;
 
 // Whether a person may be in a location.
 pub fn may_be(right: &[bool], person: usize, location: usize) -> bool

@@ -40,7 +40,8 @@ pub(crate) fn serve<'a>(
     let mut persons = blank_numbers();
     let decoded = decode(s, from, &mut kinds, &mut doors, &mut persons);
     let count = decoded.count;
-    let ran = fresh.run(
+    let ran = step_list::run(
+        fresh,
         &kinds[..count],
         &doors[..count],
         &persons[..count],

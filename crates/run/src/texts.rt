@@ -17,12 +17,12 @@ use crate::blank::blank_bytes;
 use crate::serve::serve;
 use numbers::Paper;
 use record::record::Record;
-use site::read::read_site;
+use site::read_site;
 use steps::heading_of;
 use steps_sheet::Heading;
-use text::printed::Printed;
 use text::write::put_bytes;
 use text::write::put_row;
+use told::Printed;
 
 // A byte as a number of the text.
 fn wide(byte: u8) -> usize

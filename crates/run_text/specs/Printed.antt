@@ -103,10 +103,3 @@ siteWhere read steps =
 -- What `where` prints.
 unfoldable pub whereText : List ℕ → List ℕ → List ℕ
 whereText site steps = siteWhere (siteOf site) steps
-
--- Room for every text that `panel` prints, and for every one that `where` prints.
-abbrev pub mostPanelText : ℕ
-mostPanelText = 81920
-
-abbrev pub mostWhereText : ℕ
-mostWhereText = 512

@@ -1,27 +1,5 @@
-// What the programs take from outside, sheets from files and a number from the command line, and the text that they write. What
-// goes wrong is said on standard error.
-ghost use Prim.Native.Nat.{_+_};
-ghost use mathlib.Core.Path.{_≡_};
-ghost use mathlib.Core.Bool.{cond};
-ghost use lib.ListN.{length, replicate};
-ghost use lib.Dec.{leb};
-ghost use Rattle.grammar.specs.Sizes.{limit};
-ghost use Rattle.sheet_files.specs.{Asked};
+// Sheets from files. What goes wrong is said on standard error.
 ghost use Rattle.io.specs.Counts.{Counts};
-use grammar::cut::Cell;
-use grammar::say::Number;
-use sheet::LIMIT;
-use sheet::say::number_of;
-
-// One byte more than a sheet may have, so that a longer file is seen to be longer.
-pub const ROOM: usize = LIMIT + 1;
-
-// A list of zeros for a sheet.
-pub fn blank_sheet() -> [u8; ROOM]
-    ensures { λ r. ⌜ r ≡ replicate (limit + 1) 0 ⌝ }
-{
-    [0; ROOM]
-}
 
 // Whether a file has come to its end: a read finds nothing, and doesn't fail.
 fn at_end(file: i32) -> bool {
@@ -67,38 +45,4 @@ pub fn read_asked<'a>(place: usize, otherwise: &'a [u8], sheet: &'a mut [u8]) ->
         return read_sheet(otherwise, sheet);
     }
     read_sheet(&name[..length], sheet)
-}
-
-// So many bytes are written where a text has more than its list.
-const NOTHING: usize = 0;
-
-// Writes the text that stands at the front of a list, and tells of how many bytes that is: none where the list is shorter.
-// Where a write fails, that is said on standard error.
-pub fn write_text(list: &[u8], count: usize) -> usize
-    ensures { λ r. ⌜ r ≡ cond (leb count (length (now (list .entry)))) count 0 ⌝ }
-{
-    if list.len() < count {
-        return NOTHING;
-    }
-    if !io::write_all(libc::STDOUT_FILENO, &list[0..count]) {
-        os::fail(b"standard output");
-    }
-    count
-}
-
-// The number that the program's argument says, or what is to be taken without one.
-pub fn number_asked(otherwise: usize) -> usize
-    ensures { λ r. ⌜ Asked otherwise r ⌝ }
-{
-    let mut word = io::buffer();
-    let length = os::arg(1, &mut word);
-    let whole = Cell {
-        start: 0,
-        end: length,
-        doubled: false,
-    };
-    let Number::Is(asked) = number_of(&word, whole) else {
-        return otherwise;
-    };
-    asked
 }

@@ -14,8 +14,8 @@ use Rattle.tables.specs.Tables.{orElse, andAlso, mayBe, mostPeople, mostLocatio
 use Rattle.tables.specs.Below.{Smallest, Answers, AnswersPair}
 use Rattle.tables.specs.Way as way
 use Rattle.tables.specs.Rules.{DoorFrom, FirstLocation, ExitDoor, ExitRight, Lawful}
-use Rattle.tables.specs.declared.Found.{Found}
-use Rattle.tables.specs.declared.RightFound.{RightFound}
+use Rattle.told.specs.declared.Found.{Found}
+use Rattle.told.specs.declared.RightFound.{RightFound}
 use Rattle.tables.specs.Tests.{firstNoExit, firstStray, firstNoDoor, firstNoRight, firstShutOut}
 use Rattle.tables.proofs.Laws.{and-right, and-both, or-left, or-right, denied, clash, may-be-outside}
 use Rattle.tables.proofs.Answers.{rule-6, rule-7, rule-8, rule-9, rule-10}

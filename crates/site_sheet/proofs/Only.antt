@@ -8,8 +8,8 @@ use mathlib.Core.List.{List, []}
 use lib.ListN.{length}
 use borrow.Author.Tests.{lt-ltb, le-ltb, ne-eqb}
 use Rattle.tables.specs.Below.{Smallest, SmallestPair}
-use Rattle.tables.specs.declared.Found.the-variants as found
-use Rattle.tables.specs.declared.RightFound.the-variants as pair
+use Rattle.told.specs.declared.Found.the-variants as found
+use Rattle.told.specs.declared.RightFound.the-variants as pair
 use Rattle.tables.specs.Tests.{firstStray, firstNoDoor, firstNoRight}
 use Rattle.tables.proofs.Cases.{either}
 use Rattle.grammar.specs.declared.cut.RowCut.{RowCut}

@@ -8,10 +8,10 @@ use mathlib.Core.List.{List, [], _∷_, _++_, append-assoc, append-nil}
 use lib.ListN.{length}
 use lib.Dec.{ltb, eqb}
 use borrow.Author.Tests.{ltb-true, ltb-false, eqb-true, eqb-false}
-use Rattle.tables.specs.declared.Found.{Found}
-use Rattle.tables.specs.declared.Found.the-variants as found
-use Rattle.tables.specs.declared.RightFound.{RightFound}
-use Rattle.tables.specs.declared.RightFound.the-variants as pair
+use Rattle.told.specs.declared.Found.{Found}
+use Rattle.told.specs.declared.Found.the-variants as found
+use Rattle.told.specs.declared.RightFound.{RightFound}
+use Rattle.told.specs.declared.RightFound.the-variants as pair
 use Rattle.tables.specs.Tests.{firstNoExit, firstStray, firstNoDoor, firstNoRight, firstShutOut}
 use Rattle.tables.proofs.Laws.{clash}
 use Rattle.tables.proofs.Cases.{either}

@@ -9,10 +9,12 @@ use Rattle.grammar.specs.Grammar.{Row, RowAt}
 use Rattle.site_sheet.specs.declared.SiteLine.{SiteLine}
 use Rattle.site_sheet.specs.declared.SiteLine.the-variants.{Door, Exit, Right}
 use Rattle.site_sheet.specs.declared.Fault.{Fault}
+use Rattle.site_sheet.specs.declared.Fault.the-variants.{Sound}
+use Rattle.site_sheet.specs.declared.Reading.{Reading}
 use Rattle.verdict.specs.declared.Verdict.{Verdict}
 use Rattle.verdict.specs.declared.Verdict.the-variants.{Accepted, TooLong, BadRow, NoSite, NoExit, Stray, NoDoor, NoRight, ShutOut}
 use Rattle.site_sheet.specs.Site.{verdictOf}
-use Rattle.site_sheet.specs.Says.{SiteHeaderRow, TextSaysLines, Among, HasExit, peopleIn, locationsIn, Fine, Wrong}
+use Rattle.site_sheet.specs.Says.{SiteHeaderRow, TextSaysLines, Among, HasExit, peopleIn, locationsIn, Holds, Fine, Wrong}
 
 -- the sheet is short enough, begins with its header, and its further rows say these lines
 pub record Headed (most : ℕ) (s : List ℕ) (lines : List SiteLine) : Type 0 where
@@ -33,6 +35,12 @@ pub data WrongAt : List SiteLine → List SiteLine → ℕ → Fault → Type 0 
   here : {before : List SiteLine} {line : SiteLine} {lines : List SiteLine} {f : Fault} → Wrong before line f → WrongAt before (line ∷ lines) 0 f
   further : {before : List SiteLine} {line : SiteLine} {lines : List SiteLine} {k : ℕ} {f : Fault} → Fine before line
       → WrongAt (before ++ (line ∷ [])) lines k f → WrongAt before (line ∷ lines) (k + 1) f
+
+-- what is told of rows that say these lines: each is right behind those before it, and the tables hold what they say; or the first
+-- that isn't, and what is wrong with it
+pub data RowsTold (lines : List SiteLine) (r : Reading) : Type 0 where
+  all-taken : FineLines [] lines → r .fault ≡ Sound → Holds lines (r .draft) → RowsTold lines r
+  one-wrong : (k : ℕ) (f : Fault) → WrongAt [] lines k f → r .fault ≡ f → r .row ≡ k + 1 → RowsTold lines r
 
 -- every row of the sheet is right, and these are its lines
 pub record RowsFine (most : ℕ) (s : List ℕ) (lines : List SiteLine) : Type 0 where

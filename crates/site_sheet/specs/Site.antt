@@ -4,10 +4,10 @@ use mathlib.Core.Bool.{Bool, true, false, cond}
 use mathlib.Core.List.{List, [], _∷_}
 use lib.ListN.{length}
 use lib.Dec.{ltb, eqb}
-use Rattle.tables.specs.declared.Found.{Found}
-use Rattle.tables.specs.declared.Found.the-variants as found
-use Rattle.tables.specs.declared.RightFound.{RightFound}
-use Rattle.tables.specs.declared.RightFound.the-variants as pair
+use Rattle.told.specs.declared.Found.{Found}
+use Rattle.told.specs.declared.Found.the-variants as found
+use Rattle.told.specs.declared.RightFound.{RightFound}
+use Rattle.told.specs.declared.RightFound.the-variants as pair
 use Rattle.tables.specs.Tests.{firstNoExit, firstStray, firstNoDoor, firstNoRight, firstShutOut}
 use Rattle.record.specs.declared.record.Record.{Record}
 use Rattle.record.specs.Doors.{freshRecord}

@@ -11,12 +11,12 @@ ghost use Rattle.soundness.specs.SoundTest.{zeroBeyond, doorsSound, list
 use door::Door;
 use door::phase::grants;
 use granting::grant_of;
+use lists::byte_at;
+use lists::word_at;
 use phases::phase::Phase;
-use tables::Found;
 use tables::MOST_DOORS;
 use tables::MOST_LOCATIONS;
-use tables::lists::byte_at;
-use tables::lists::word_at;
+use told::Found;
 
 // Beyond the count a table holds 0.
 fn zero_at(count: usize, table: &[u8], at: usize) -> bool

@@ -1,25 +1,31 @@
 // A steps sheet becomes a list of steps, up to the first row of bad form. Nothing here knows of a record.
 //
-// `row` has what a row says; here is the whole sheet: what its beginning is, and its steps in three lent lists. The definitions, and
-// the theorems of them, are those of crate `steps_sheet`.
+// Crate `steps_row` has what a row says; here is the whole sheet: what its beginning is, and its steps in three lent lists. The
+// definitions, and the theorems of them, are those of crate `steps_sheet`.
 ghost use mathlib.Core.Path.{_≡_};
 ghost use mathlib.Core.Bool.{true};
-ghost use Rattle.steps_sheet.specs.Steps.{headingOf};
+ghost use Rattle.steps_sheet.specs.Steps.{stepsHeaderAt, headingOf};
 ghost use Rattle.steps_sheet.specs.Lent.{mostIn, roomForSteps, stepsRoomIn, decodedIn, kindsListed, doorsListed, personsListed};
-use crate::row::is_header;
-use crate::row::line_of;
+use cells::say::says_words;
+use grammar::cut::Cells;
 use grammar::cut::RowCut;
 use phases::answer::Answer;
+use reader::row_at;
 use sheet::LIMIT;
-use sheet::reader::row_at;
+use steps_row::line_of;
 use steps_sheet::Decoded;
 use steps_sheet::Heading;
 use steps_sheet::StepsLine;
 
-mod row;
-
 // A row that is a step has eight bytes, or as the last without CRLF six, so that a sheet has at most so many.
 pub const MOST_STEPS: usize = (LIMIT + 2) / 8;
+
+// Whether a row with these cells is the header.
+fn is_header(s: &[u8], cells: Cells) -> bool
+    ensures { λ r. ⌜ r ≡ stepsHeaderAt (now (s .entry)) cells ⌝ }
+{
+    says_words(s, cells, b"step", b"door", b"person")
+}
 
 // What the beginning of a steps sheet is.
 pub fn heading_of(s: &[u8]) -> Heading

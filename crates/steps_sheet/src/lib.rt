@@ -1,6 +1,6 @@
 // What a steps sheet says: its header, and the steps of its rows up to the first of bad form. The definitions are in specs/, in
 // the words of paper 01, "Program and one whole run", and the theorems of them in proofs/. There is no function here: the types are
-// those that the crate `steps` answers with.
+// those that `steps_row` and `steps` answer with.
 use phases::answer::Answer;
 use phases::table::Kind;
 

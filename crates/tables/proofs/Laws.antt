@@ -7,7 +7,7 @@
 -- Assumes nothing.
 use Prim.Native.Nat.{ℕ, zero, suc, _≤_, _<_}
 use mathlib.Core.Path.{_≡_, refl, sym, subst, _∙_}
-use mathlib.Core.Bool.{Bool, true, false, not, true≢false, false≢true}
+use mathlib.Core.Bool.{Bool, true, false, not, cond, true≢false, false≢true}
 use mathlib.Core.Logic.{⊎-elim}
 use mathlib.Core.List.{List}
 use native.Mathlib.Nat.{not-suc-le-zero, eq-or-lt-of-le, le-of-suc-le-suc}
@@ -17,10 +17,10 @@ use lib.Dec.{ltb, leb, eqb}
 use Rattle.tables.specs.Tables.{orElse, andAlso, mayBe}
 use Rattle.tables.specs.Below.{allBelow, someBelow, orAt, leastBelow, withLocation, locationOf, leastPair, isNothing, noPair}
 use Rattle.tables.specs.Below.{Tells, Answers, SmallestPair, AnswersPair}
-use Rattle.tables.specs.declared.Found.{Found}
-use Rattle.tables.specs.declared.Found.the-variants as found
-use Rattle.tables.specs.declared.RightFound.{RightFound}
-use Rattle.tables.specs.declared.RightFound.the-variants as pair
+use Rattle.told.specs.declared.Found.{Found}
+use Rattle.told.specs.declared.Found.the-variants as found
+use Rattle.told.specs.declared.RightFound.{RightFound}
+use Rattle.told.specs.declared.RightFound.the-variants as pair
 
 -- ---- tests
 
@@ -204,6 +204,12 @@ tell-all test P n t =
     record { yes = λ e k h. t k .yes (all-yes test n e k h); back = λ all. all-back test n (λ k h. t k .back (all k h)) }
 
 -- the same facts in other words
+-- a choice between two tests
+pub tell-cond : (a : Bool) {x y : Bool} {N P Q : Type 0} → (a ≡ true → N) → (N → a ≡ true) → Tells x P → Tells y Q
+    → Tells (cond a x y) ((N → P) × ((N → ⊥) → Q))
+tell-cond true f g s t = record { yes = λ e. (λ _. s .yes e, λ n. absurd (n (f refl))); back = λ p. s .back (p .0 (f refl)) }
+tell-cond false f g s t = record { yes = λ e. (λ n. absurd (false≢true (g n)), λ _. t .yes e); back = λ p. t .back (p .1 (λ n. false≢true (g n))) }
+
 pub tell-as : {b : Bool} {P Q : Type 0} → (P → Q) → (Q → P) → Tells b P → Tells b Q
 tell-as f g t = record { yes = λ e. f (t .yes e); back = λ q. t .back (g q) }
 

@@ -13,7 +13,7 @@ use borrow.Author.Count.{below-more}
 use borrow.Author.Needs.{needs}
 use borrow.Author.Tests.{not-true, not-false}
 use Rattle.tables.specs.Below.{allBelow, someBelow, leastBelow}
-use Rattle.tables.specs.declared.Found.the-variants.{At, Nothing}
+use Rattle.told.specs.declared.Found.the-variants.{At, Nothing}
 use Rattle.tables.proofs.Laws.{clash, denied, all-yes, all-back, some-back, some-none, at-least, none-least}
 
 -- the loop has come to i of n, and the test answered `seen` at every number before i

@@ -18,7 +18,7 @@ use lib.Seq.{sets, sets-eq}
 use lib.Dec.{leb}
 use Rattle.tables.proofs.Laws.{clash, denied}
 use Rattle.tables.specs.Way.{Way, outside, onward, unlessOutside, wayOut, ifRoom, wayToldIn, wayWrittenIn}
-use Rattle.tables.specs.declared.WayTold.the-variants.{Length, TooShort}
+use Rattle.told.specs.declared.WayTold.the-variants.{Length, TooShort}
 
 -- ---- one step
 

@@ -50,6 +50,10 @@ unfoldable pub andAlso : Bool → Bool → Bool
 andAlso true b = b
 andAlso false b = false
 
+-- the entry of the rights' table for person p and location l
+abbrev pub rightAt : List Bool → ℕ → ℕ → Bool
+rightAt right p l = getD right (p * mostLocations + l) false
+
 -- 01, "Site sheet": "person p may be in l. Location 0 is everybody's and has no row."
 unfoldable pub mayBe : List Bool → ℕ → ℕ → Bool
-mayBe right p l = orElse (eqb l 0) (andAlso (ltb l mostLocations) (getD right (p * mostLocations + l) false))
+mayBe right p l = orElse (eqb l 0) (andAlso (ltb l mostLocations) (rightAt right p l))

@@ -5,10 +5,9 @@ use mathlib.Core.Bool.{Bool, true, false}
 use mathlib.Core.List.{List, [], _∷_, _++_}
 use lib.ListN.{getD, length, drop}
 use lib.Dec.{leb}
-use Rattle.numbers.specs.Numbers.{doneNo, tooShortNo}
 use Rattle.tables.specs.Tables.{mostLocations}
-use Rattle.tables.specs.declared.WayTold.{WayTold}
-use Rattle.tables.specs.declared.WayTold.the-variants.{Length, TooShort}
+use Rattle.told.specs.declared.WayTold.{WayTold}
+use Rattle.told.specs.declared.WayTold.the-variants.{Length, TooShort}
 
 -- "The way out of a location is its exit followed by the way out of that exit, and nothing for location 0."
 pub data Way (exit : List ℕ) : ℕ → List ℕ → Type 0 where
@@ -54,12 +53,3 @@ wayToldIn way list = ifRoom (leb (length way) (length list)) (Length (length way
 
 unfoldable pub wayWrittenIn : List ℕ → List ℕ → List ℕ
 wayWrittenIn way list = ifRoom (leb (length way) (length list)) (way ++ drop (length way) list) list
-
--- what is told of a way, by the paper's number and the length
-abbrev pub wayToldNo : WayTold → ℕ
-wayToldNo (Length n) = doneNo
-wayToldNo TooShort = tooShortNo
-
-abbrev pub wayToldLength : WayTold → ℕ
-wayToldLength (Length n) = n
-wayToldLength TooShort = 0

@@ -6,9 +6,8 @@ use mathlib.Core.List.{List}
 use lib.ListN.{length}
 use lib.Seq.{sets}
 use lib.Dec.{leb}
-use Rattle.numbers.specs.Numbers.{doneNo, tooShortNo}
-use Rattle.text.specs.declared.printed.Printed.{Printed}
-use Rattle.text.specs.declared.printed.Printed.the-variants.{Text, TooShort}
+use Rattle.told.specs.declared.Printed.{Printed}
+use Rattle.told.specs.declared.Printed.the-variants.{Text, TooShort}
 
 unfoldable pub fitsIn : List ℕ → List ℕ → Bool
 fitsIn text out = leb (length text) (length out)
@@ -25,8 +24,3 @@ written text out = cond (fitsIn text out) (sets out 0 text) out
 pub record Prints (text before : List ℕ) (told : Printed) (after : List ℕ) : Type 0 where
   pub answer : told ≡ printedOf text before
   pub list : after ≡ written text before
-
--- 13: "list lent .. is shorter"
-abbrev pub printedNo : Printed → ℕ
-printedNo (Text n) = doneNo
-printedNo TooShort = tooShortNo

@@ -4,14 +4,14 @@
 // and `where`. Behind each text of a steps sheet of at most 1,024 bytes stands what a list gives that is one byte too short for
 // it (13, and no byte of the list is altered) and one that is just long enough (0, and the text). tests/make-vectors makes the
 // sheets, and from the papers' reference what is expected.
+use blank_lists::ROOM;
+use blank_lists::blank_panel_text;
 use libc::STDOUT_FILENO;
 use run::texts::panel_text;
 use run::texts::where_text;
-use run_text::blank::blank_panel_text;
-use sheet_files::ROOM;
 use sheet_files::read_sheet;
-use site::read::read_site;
-use text::printed::Printed;
+use site::read_site;
+use told::Printed;
 
 // The longest steps sheet whose texts also go into lists of their own length, and room for those.
 const MOST_SHORT: usize = 1024;

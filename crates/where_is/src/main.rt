@@ -1,12 +1,12 @@
 // `where`: reads a site sheet and a steps sheet and writes where everyone is after the steps. The sheets are the two files that
 // its arguments name, or site.csv and steps.csv of the folder that it is run in. The text is proved in the crate `run`; here is only
 // reading and writing.
+use blank_lists::blank_sheet;
+use blank_lists::blank_where_text;
+use outside::write_text;
 use run::texts::where_text;
-use run_text::blank::blank_where_text;
-use sheet_files::blank_sheet;
 use sheet_files::read_asked;
-use sheet_files::write_text;
-use text::printed::Printed;
+use told::Printed;
 
 fn main() {
     let mut site = blank_sheet();

@@ -8,7 +8,7 @@ use Rattle.tables.proofs.Ways as ways
 use Rattle.rules.proofs.way_length.Reads as way-length
 use Rattle.rules.proofs.way_length.Kinds as way-length-kinds
 use Rattle.rules.proofs.+way_length.Lts-way_length as way-length-lts
-use Rattle.tables.proofs.lists.byte_at.Reads as byte-at-reads
+use Rattle.lists.proofs.byte_at.Reads as byte-at-reads
 use Rattle.rules.proofs.+way_length.{statement}
 use Rattle.rules.proofs.+way_length.Tie.{close}
 

@@ -10,7 +10,7 @@ use Rattle.tables.proofs.Ways as ways
 use Rattle.rules.proofs.write_way.Reads as write-way
 use Rattle.rules.proofs.write_way.Kinds as write-way-kinds
 use Rattle.rules.proofs.+write_way.Lts-write_way as write-way-lts
-use Rattle.tables.proofs.lists.byte_at.Reads as byte-at-reads
+use Rattle.lists.proofs.byte_at.Reads as byte-at-reads
 use Rattle.rules.proofs.+write_way.{statement}
 use Rattle.rules.proofs.+write_way.Tie.{close}
 

@@ -53,8 +53,8 @@ use Rattle.phases.proofs.table.Kind as K
 use Rattle.phases.proofs.table.Kind.Laws as K′
 use Rattle.record.proofs.steps.Step as S
 use Rattle.record.proofs.steps.Step.Laws as S′
-use Rattle.record.proofs.steps.Told as O
-use Rattle.record.proofs.steps.Told.Laws as O′
+use Rattle.deeds.proofs.Told as O
+use Rattle.deeds.proofs.Told.Laws as O′
 use Rattle.record.proofs.record.Record.step as step
 use Rattle.record.proofs.record.Record.step.Symbol as step-def
 use Rattle.record.proofs.record.Record.step.Symbol.{name as #step}

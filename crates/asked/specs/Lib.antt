@@ -1,0 +1,2 @@
+-- The answers to the three questions, by the paper's numbers and values.
+pub mod Asked

@@ -1,0 +1,2 @@
+-- What the tests of `judge` tell.
+mod Judged

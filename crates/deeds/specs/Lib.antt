@@ -1,0 +1,2 @@
+-- What a step does and tells, said of the lists alone.
+pub mod Deeds

@@ -1,0 +1,2 @@
+-- `Fields`: what the test of one door's fields tells.
+pub mod Fields

@@ -1,0 +1,24 @@
+-- `put_word` meets its contract: past the end of a list nothing is set. Assumes nothing.
+use mathlib.Core.Path.{sym}
+use lib.Seq.{set-out}
+use borrow.Author.Needs.{needs}
+use Rattle.lists.proofs.put_word.Statement.{statement}
+use Rattle.lists.proofs.put_word.Tie as tie
+
+mul-list : tie.Need-mul-list
+mul-list c = search needs
+
+slice-write-list : tie.Need-slice-write-list
+slice-write-list c = search needs
+
+same-length : tie.Need-same-length
+same-length c = search needs
+
+returns : tie.Need-returns
+returns c = search needs
+
+returns-2 : tie.Need-returns-2
+returns-2 c = let a = c .before .args in sym (set-out (a .list .now) (a .at) (a .word) (c .if1 .left))
+
+pub put-word-spec : {M : Type 1} → statement M
+put-word-spec = tie.close (tie.spec mul-list slice-write-list same-length returns returns-2)

@@ -1,0 +1,2 @@
+-- `Alone`: equations allow one answer.
+pub mod Alone

@@ -1,0 +1,3 @@
+-- `Cases`: the paper's twelve cases. `WholeRun`: the run that it prints.
+pub mod Cases
+pub mod WholeRun

@@ -1,0 +1,111 @@
+-- Demand 1 of a step that is judged on lent lists and carried out on them, and that each has one answer. Assumes nothing.
+use Prim.Native.Nat.{ℕ, _≤_, _<_}
+use mathlib.Core.Path.{_≡_, refl, sym, _∙_}
+use mathlib.Core.Bool.{Bool, true, false, not, cond}
+use mathlib.Core.List.{List, []}
+use mathlib.Core.Logic.{inl, inr}
+use native.Mathlib.Omega.{arith}
+use borrow.Author.Tests.{ltb-true, ltb-false, lt-ltb}
+use lib.ListN.{getD}
+use lib.Seq.{getD-set-other}
+use lib.Dec.{ltb}
+use Rattle.tables.specs.Tables.{Plan, orElse, mostPeople}
+use Rattle.tables.specs.Below.{Tells}
+use Rattle.tables.proofs.Laws.{clash, and-left, and-right, and-both}
+use Rattle.tables.proofs.Cases.{either}
+use Rattle.phases.specs.declared.table.Kind.{Kind}
+use Rattle.phases.specs.declared.answer.Answer.the-variants.{Done, NoSuch, NotAllowed, Unsound}
+use Rattle.phases.specs.Answers.{answerNo}
+use Rattle.phases.specs.Kinds.{namesPerson}
+use Rattle.phases.specs.Table.{asked}
+use Rattle.door.specs.declared.Door.{Door}
+use Rattle.door.specs.declared.does.Does.{Does}
+use Rattle.door.specs.declared.does.Does.the-variants.{Stays, Turns, Moves}
+use Rattle.door.specs.Door.{doorIn}
+use Rattle.door.specs.Does.{effect}
+use Rattle.granting.specs.Reasons.{firstReason}
+use Rattle.deeds.specs.declared.Deed.{Deed}
+use Rattle.deeds.specs.declared.Deed.the-variants.{Tells as Told-so, Puts, Leads}
+use Rattle.deeds.specs.Deeds.{existAmong, deedOf, allowedOf, judgedOf, toldOf, placesAfter, phasesAfter, holdersAfter, countsAfter}
+use Rattle.record.specs.Doors.{recordOf}
+use Rattle.record.proofs.Deeds.{judged-step}
+use Rattle.record.proofs.Laws.{sound-steps}
+use Rattle.numbers.specs.Telling.{NumberBy, done, _unless_then_}
+use Rattle.record_answers.specs.Deeds.{JudgeTells, CarryTells, DeedsAnswers, DeedsUnique}
+
+exist-tells : (people doors : ℕ) (k : Kind) (d p : ℕ) → Tells (existAmong people doors k d p) ((d < doors) × (namesPerson k ≡ true → p < people))
+unfolding existAmong orElse
+exist-tells people doors k d p =
+    record {
+      yes = λ e. (ltb-true d doors (and-left _ _ e), λ named. ltb-true p people (rw named at (and-right (ltb d doors) _ e)));
+      back = λ x. and-both _ _ (lt-ltb d doors (x .0)) (person (namesPerson k) (x .1));
+    }
+  where
+    person : (b : Bool) → (b ≡ true → p < people) → orElse (not b) (ltb p people) ≡ true
+    person true h = lt-ltb p people (h refl)
+    person false h = refl
+
+-- a step that may be done tells 0
+done-told : (x : Does) (phase held to : ℕ) → toldOf (deedOf x phase held to) .answer ≡ Done
+done-told Stays phase held to = refl
+done-told (Turns c why) phase held to = refl
+done-told (Moves c) phase held to = refl
+
+-- the number of a deed is that of the first fact that fails
+abbrev Numbered : Plan → List ℕ → Kind → ℕ → ℕ → Deed → Type 0
+Numbered site phase k d p deed =
+    NumberBy
+    (14 unless site .people ≤ mostPeople
+    then 11 unless (d < site .doors) × (namesPerson k ≡ true → p < site .people)
+    then 12 unless asked k (getD phase d 0) ≡ true
+    then done)
+    (answerNo (toldOf deed .answer))
+
+judge-tells : (site : Plan) (right : List Bool) (place phase holder count : List ℕ) (k : Kind) (d p : ℕ) → JudgeTells site right place phase holder count k d p
+unfolding judgedOf
+judge-tells site right place phase holder count k d p =
+    record {
+      number =
+          either (Numbered site phase k d p) (ltb mostPeople (site .people)) (λ many. let m : mostPeople < site .people = ltb-true mostPeople (site .people) many in inl ((λ h. omega (arith, m)), refl))
+          (λ few.
+          let room = ltb-false mostPeople (site .people) few in
+          either (Numbered site phase k d p) (existAmong (site .people) (site .doors) k d p)
+          (λ e.
+          let x = exist-tells (site .people) (site .doors) k d p .yes e in
+          either (Numbered site phase k d p) (asked k (getD phase d 0))
+          (λ may. inr (room, inr (x, inr (may, rw (done-told (effect k p (firstReason site right place phase holder d (getD holder d 0)) (doorIn phase holder count d)) (getD phase d 0) (getD holder d 0) (getD (site .destination) d 0))))))
+          (λ barred. inr (room, inr (x, inl ((λ may. clash may barred), refl)))))
+          (λ e. inr (room, inl ((λ x. clash (exist-tells (site .people) (site .doors) k d p .back x) e), refl))));
+      is-step =
+          λ sh long s.
+          let r = recordOf site right place phase holder count in judged-step r k d p long s ∙ sym (sound-steps r k d p sh s);
+    }
+
+-- a door that is put leaves the others as they were
+put-others : (d : ℕ) (phase holder count : List ℕ) (c : Door) (e : ℕ) → (e ≡ d → ⊥)
+    → doorIn (phasesAfter (Puts c 0) d phase) (holdersAfter (Puts c 0) d holder) (countsAfter (Puts c 0) d count) e ≡ doorIn phase holder count e
+put-others d phase holder count c e ne =
+    rw (getD-set-other phase d e (c .phase) 0 ne, getD-set-other holder d e (c .holder) 0 ne, getD-set-other count d e (c .count) 0 ne)
+
+carry-tells : (deed : Deed) (d : ℕ) (place phase holder count : List ℕ) → CarryTells deed d place phase holder count
+carry-tells (Told-so answer so) d place phase holder count = record { unaltered = λ _. (refl, refl, refl, refl); others = λ e ne. refl }
+carry-tells (Puts c why) d place phase holder count =
+    record { unaltered = λ no-way. absurd (no-way refl); others = put-others d phase holder count c }
+carry-tells (Leads c p l) d place phase holder count =
+    record { unaltered = λ no-way. absurd (no-way refl); others = put-others d phase holder count c }
+
+pub of-deeds : DeedsAnswers
+of-deeds = record { judge = judge-tells; carry-out = carry-tells }
+
+pub deeds-unique : DeedsUnique
+deeds-unique =
+    record {
+      judge = λ people doors origin destination right place phase holder count k d p x y a b. a 0 [] ∙ sym (b 0 []);
+      carry-out = λ deed d place phase holder count x y a b.
+          let e = a .0 ∙ sym (b .0) in
+          let f = a .1 ∙ sym (b .1) in
+          let g = a .2 ∙ sym (b .2) in
+          let h = a .3 ∙ sym (b .3) in
+          let k = a .4 ∙ sym (b .4) in
+          λ i. (e i, f i, g i, h i, k i);
+    }

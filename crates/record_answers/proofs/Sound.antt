@@ -1,0 +1,43 @@
+-- Demand 1 of grants, reasons and the soundness of lent lists; what it says is in `specs/Answers.antt`. Assumes nothing.
+use Prim.Native.Nat.{ℕ}
+use mathlib.Core.Path.{_≡_, subst}
+use mathlib.Core.Bool.{Bool}
+use mathlib.Core.List.{List}
+use mathlib.Core.Logic.{_↔_}
+use Rattle.tables.specs.Tables.{Plan}
+use Rattle.tables.specs.Below.{Tells}
+use Rattle.told.specs.declared.Found.the-variants.{At, Nothing}
+use Rattle.granting.specs.Grants.{GrantAt, grantOf, hasGrant}
+use Rattle.granting.specs.Reasons.{firstReason}
+use Rattle.soundness.specs.SoundTest.{listsSound}
+use Rattle.granting.proofs.Granting.{found-grant, found-first, first-found, no-grant, no-door}
+use Rattle.record.specs.Doors.{recordOf, Shaped}
+use Rattle.record.specs.Sound.{Sound}
+use Rattle.record.specs.SoundTest.{soundB}
+use Rattle.record.specs.Steps.{First}
+use Rattle.record.proofs.Tells.{sound-tells}
+use Rattle.record.proofs.Right.{reason-first, reason-only}
+use Rattle.record_answers.specs.Answers.{FirstGrant, SoundAnswers}
+
+reason-told : (site : Plan) (right : List Bool) (place phase holder count : List ℕ) (d p n : ℕ)
+    → (firstReason site right place phase holder d p ≡ n) ↔ First (recordOf site right place phase holder count) d p n
+reason-told site right place phase holder count d p n =
+    let r = recordOf site right place phase holder count in
+    ((λ e. subst (First r d p) e (reason-first r d p)), reason-only r d p n)
+
+grant-told : (n : ℕ) (phase holder : List ℕ) (p : ℕ)
+    → ((d : ℕ) → (grantOf n phase holder p ≡ At d) ↔ FirstGrant n phase holder p d)
+    × ((grantOf n phase holder p ≡ Nothing) ↔ ((d : ℕ) → GrantAt n phase holder p d → ⊥))
+unfolding hasGrant
+grant-told n phase holder p = (
+  (λ d. ((λ e. record { grant = found-grant n phase holder p d e; before = found-first n phase holder p d e }), λ f. first-found n phase holder p d (f .grant) (f .before))),
+  ((λ e. no-grant n phase holder p (rw e)), no-door n phase holder p),
+)
+
+lists-tell : (site : Plan) (right : List Bool) (place phase holder count : List ℕ) → Shaped (recordOf site right place phase holder count)
+    → Tells (listsSound site right place phase holder count) (Sound (recordOf site right place phase holder count))
+unfolding soundB
+lists-tell site right place phase holder count sh = sound-tells (recordOf site right place phase holder count) sh
+
+pub of-sound : SoundAnswers
+of-sound = record { grant-of = grant-told; first-reason = reason-told; lists-sound = lists-tell }

@@ -1,0 +1,17 @@
+-- `site::refused` meets its contract.
+-- Assumes nothing.
+use Rattle.site_sheet.specs.Draft.{unmarked}
+use Rattle.record.specs.Doors.{zeros}
+use borrow.Author.Needs.{needs}
+use Rattle.site.proofs.refused.Statement.{statement}
+use Rattle.site.proofs.refused.Tie as tie
+
+fresh-requires : tie.Need-fresh-requires
+fresh-requires c κs = search needs
+
+returns : tie.Need-returns
+unfolding zeros unmarked
+returns c = rw (c .fresh .ensures)
+
+pub refused-spec : {M : Type 1} → statement M
+refused-spec = tie.close (tie.spec fresh-requires returns)

@@ -1,0 +1,17 @@
+-- `site_tables::read_rows` meets its contract: the rows are taken into blank tables.
+-- Assumes nothing.
+use Rattle.record.specs.Doors.{zeros}
+use Rattle.site_sheet.specs.Draft.{unmarked}
+use borrow.Author.Needs.{needs}
+use Rattle.site_tables.proofs.read_rows.Statement.{statement}
+use Rattle.site_tables.proofs.read_rows.Tie as tie
+
+take-rows-requires : tie.Need-take-rows-requires
+take-rows-requires c κs = search needs
+
+returns : tie.Need-returns
+unfolding zeros unmarked
+returns c = c .before .take-rows .ensures
+
+pub read-rows-spec : {M : Type 1} → statement M
+read-rows-spec = tie.close (tie.spec take-rows-requires returns)

@@ -1,0 +1,2 @@
+-- The loop that runs a list of steps.
+mod Running

@@ -1,0 +1,22 @@
+-- `kind_from_red` meets its contract: the words are tried in their order. Assumes nothing.
+use Rattle.phases.specs.Kinds.{kindOf}
+use Rattle.grammar.proofs.Naming.{naming}
+use Rattle.steps_row.proofs.kind_from_red.Statement.{statement}
+use Rattle.steps_row.proofs.kind_from_red.Tie as tie
+
+pub kind-from-red-spec : {M : Type 1} → statement M
+unfolding kindOf
+kind-from-red-spec =
+    tie.close
+    (tie.spec
+    (λ c. search naming)
+    (λ c κs. search naming)
+    (λ c. search naming)
+    (λ c. search naming)
+    (λ c κs. search naming)
+    (λ c. search naming)
+    (λ c. search naming)
+    (λ c κs. search naming)
+    (λ c. search naming)
+    (λ c κs. search naming)
+    (λ c. search naming))
