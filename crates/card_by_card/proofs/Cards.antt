@@ -12,8 +12,8 @@ use lib.Dec.{eqb}
 use Rattle.tables.specs.Tables.{orElse, andAlso}
 use Rattle.tables.proofs.Cases.{same-or-not}
 use Rattle.door.specs.declared.Door.{Door}
-use Rattle.door.specs.declared.does.Does.{Does}
-use Rattle.door.specs.Does.{effect}
+use Rattle.door_does.specs.declared.Does.{Does}
+use Rattle.door_does.specs.Does.{effect}
 use Rattle.phases.specs.declared.table.Kind.{Kind}
 use Rattle.phases.specs.declared.table.Kind.the-variants.{Card, Decide, Green, Red, Walk, Tick, Passed, Lapsed, Dark, Ack, Unknown}
 use Rattle.phases.specs.declared.answer.Answer.{Answer}

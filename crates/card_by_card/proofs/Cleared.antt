@@ -6,9 +6,11 @@ use mathlib.Core.List.{List}
 use Rattle.tables.specs.Tables.{Plan, mostDoors}
 use Rattle.record.specs.declared.record.Record.{Record}
 use Rattle.door.specs.Door.{freeDoor}
-use Rattle.record.specs.Doors.{planOf, recordOf, doorOf, zeros, Shaped}
+use Rattle.record.specs.Doors.{planOf, recordOf, doorOf, Shaped}
+use Rattle.tables.specs.Zero.{zeros}
 use Rattle.record.specs.Sound.{DoorOk, Sound}
-use Rattle.record.proofs.Fresh.{zeros-at, zeros-long, free-ok}
+use Rattle.tables.proofs.Zero.{zeros-at, zeros-long}
+use Rattle.record.proofs.Fresh.{free-ok}
 
 -- ---- the record with its doors cleared
 

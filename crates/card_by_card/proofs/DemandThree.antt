@@ -6,7 +6,8 @@ use mathlib.Core.List.{List, [], _++_}
 use Rattle.record.specs.declared.record.Record.{Record}
 use Rattle.tables.specs.Tables.{mostPeople}
 use Rattle.door.specs.Door.{freeDoor}
-use Rattle.record.specs.Doors.{planOf, doorOf, zeros}
+use Rattle.record.specs.Doors.{planOf, doorOf}
+use Rattle.tables.specs.Zero.{zeros}
 use Rattle.record.specs.Run.{lastOf}
 use Rattle.phases.specs.Kinds.{StepRow}
 use Rattle.run_events.specs.Lines.{Line, heardOf}

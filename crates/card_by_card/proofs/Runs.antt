@@ -19,8 +19,8 @@ use Rattle.phases.specs.Phase.{read, green, walked, expired, red, keeps, grants
 use Rattle.record.specs.Doors.{doorOf, Shaped}
 use Rattle.record.specs.Sound.{Sound}
 use Rattle.phases.specs.Kinds.{StepRow, allows}
-use Rattle.door.specs.declared.does.Does.{Does}
-use Rattle.door.specs.Does.{effect}
+use Rattle.door_does.specs.declared.Does.{Does}
+use Rattle.door_does.specs.Does.{effect}
 use Rattle.record.specs.Steps.{reasonFor, First, act, refused, doing}
 use Rattle.record.specs.Run.{rowOf, lastOf}
 use Rattle.tables.proofs.Cases.{either}

@@ -24,8 +24,8 @@ use Rattle.record.specs.Deeds.{holding}
 use Rattle.granting.specs.Grants.{GrantAt}
 use Rattle.record.specs.Sound.{Sound}
 use Rattle.phases.specs.Kinds.{StepRow, allows, namesPerson}
-use Rattle.door.specs.declared.does.Does.the-variants.{Turns}
-use Rattle.door.specs.Does.{effect}
+use Rattle.door_does.specs.declared.Does.the-variants.{Turns}
+use Rattle.door_does.specs.Does.{effect}
 use Rattle.record.specs.Steps.{reasonFor, Admitted, First, none, away, barred, busy, act, doing, stepOf}
 use Rattle.record.specs.Run.{rowOf, lastOf}
 use Rattle.tables.proofs.Cases.{same-or-not}

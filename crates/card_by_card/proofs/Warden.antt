@@ -22,7 +22,7 @@ use Rattle.run_events.specs.Events.{What, Grant, Denial, Passage, Lapse, RunEve
 use Rattle.card_by_card.specs.Serving.{recordedIn}
 use Rattle.card_by_card.specs.Served.{Fresh}
 use Rattle.card_by_card.specs.Warden.{isPassage, placesBy, NoPassage, end, then, StandsBy, never, last, PutByPassages, Struck, no-more, keep, strike, RefusedMovesNobody}
-use Rattle.record.proofs.Fresh.{zeros-at}
+use Rattle.tables.proofs.Zero.{zeros-at}
 use Rattle.card_by_card.proofs.Serial.{placed, Serves}
 use Rattle.card_by_card.proofs.Runs.{ServesAll, none, more, serves-both, all-lead, all-decide, last-both}
 use Rattle.card_by_card.proofs.DemandThree.{all-served}

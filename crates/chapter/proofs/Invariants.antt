@@ -16,13 +16,13 @@ use Rattle.granting.specs.Grants.{GrantAt}
 use Rattle.record.specs.Sound.{Sound}
 use Rattle.tables.proofs.Cases.{same-or-not, below-or-not, one-of}
 use Rattle.record.proofs.Right.{grants-keeps}
-use Rattle.chapter.specs.Sets.{dom, _∪_}
+use Rattle.machines.specs.Sets.{dom, _∪_}
 use Rattle.chapter.specs.Reading.{constantsOf, isIn, DoorIn, CardAt, stateOf, stateOf3, stateOf2, stateOf1}
-use Rattle.chapter.specs.M0 as m0
-use Rattle.chapter.specs.M2 as m2
-use Rattle.chapter.specs.M3 as m3
-use Rattle.chapter.specs.M4.{BLR, mAckn, mAccept, GRN, mPass, mOff-grn, mRefuse, RED, mOff-red}
-use Rattle.chapter.specs.M4 as m4
+use Rattle.machines.specs.M0 as m0
+use Rattle.machines.specs.M2 as m2
+use Rattle.machines.specs.M3 as m3
+use Rattle.machines.specs.M4.{BLR, mAckn, mAccept, GRN, mPass, mOff-grn, mRefuse, RED, mOff-red}
+use Rattle.machines.specs.M4 as m4
 use Rattle.chapter.proofs.Site.{may-exists}
 
 -- ---- the phases of each set

@@ -15,32 +15,22 @@ use Rattle.record.specs.Steps.{stepOf}
 use Rattle.record.specs.Run.{rowOf, lastOf}
 use Rattle.phases.specs.Kinds.{StepRow}
 use Rattle.record.proofs.Laws.{refused-stays, sound-stays, shaped-stays, plan-stays, rights-stay}
-use Rattle.chapter.specs.Context.{Constants, Axioms}
-use Rattle.chapter.specs.Machines.{Same, Move, event, skip, MachineStep, Keeps}
-use Rattle.chapter.specs.M0 as m0
-use Rattle.chapter.specs.M1 as m1
-use Rattle.chapter.specs.M2 as m2
-use Rattle.chapter.specs.M3 as m3
-use Rattle.chapter.specs.M4 as m4
+use Rattle.machines.specs.Context.{Constants, Axioms}
+use Rattle.machines.specs.Machines.{Same, Move, event, skip, MachineStep}
+use Rattle.machines.specs.M0 as m0
+use Rattle.machines.specs.M1 as m1
+use Rattle.machines.specs.M2 as m2
+use Rattle.machines.specs.M3 as m3
+use Rattle.machines.specs.M4 as m4
 use Rattle.chapter.specs.Reading.{constantsIn, constantsOf, stateOf, stateOf3, stateOf2, stateOf1, Enabled, Idle}
 use Rattle.chapter.specs.Panel.{MoveOf, done, idle, refused, move3, move2, move1, move0, StepOfEach, OneMove, RunOfEach, stop, step}
 use Rattle.chapter.proofs.Site.{axioms}
 use Rattle.chapter.proofs.Invariants.{inv0, inv2, inv3, inv4}
-use Rattle.chapter.proofs.Refine.{same-refl, M1-keeps, M1-refines-M0, M2-refines-M1, M3-refines-M2, M4-refines-M3, keeps-on, step-seen}
+use Rattle.machines.proofs.Refine.{same-refl, M1-refines-M0, M2-refines-M1, M3-refines-M2, M4-refines-M3, step-seen}
 use Rattle.chapter.proofs.Steps.{follows, enabled, by-tick}
 use Rattle.chapter.proofs.Stands.{stands-once, idle-stands}
 
 -- ---- the invariants
-
-module _ (c : Constants) (ax : Axioms c) where
-  pub M2-keeps : Keeps (m2.machine c) (m2.All c)
-  M2-keeps = keeps-on (M2-refines-M1 c ax) (M1-keeps c ax)
-
-  pub M3-keeps : Keeps (m3.machine c) (m3.All c)
-  M3-keeps = keeps-on (M3-refines-M2 c ax) M2-keeps
-
-  pub M4-keeps : Keeps (m4.machine c) (m4.All c)
-  M4-keeps = keeps-on (M4-refines-M3 c ax) M3-keeps
 
 pub all-of : (r : Record) → Sound r → m4.All (constantsOf r) (stateOf r)
 all-of r s = (((inv0 r s, inv2 r s), inv3 r s), inv4 r)

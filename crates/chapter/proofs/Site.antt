@@ -1,4 +1,4 @@
--- The tables of a sound record are constants that obey the chapter's axioms, and what follows from the axioms for safety.
+-- The tables of a sound record are constants that obey the chapter's axioms, and their signed way leads everybody outside.
 -- Assumes nothing.
 use Prim.Native.Nat.{ℕ, _<_}
 use mathlib.Core.Path.{_≡_, refl, sym, subst, _∙_}
@@ -19,8 +19,8 @@ use Rattle.record.specs.declared.record.Record.{Record}
 use Rattle.record.specs.Doors.{planOf}
 use Rattle.record.specs.Sound.{Sound}
 use Rattle.tables.proofs.Cases.{same-or-not, below-or-not}
-use Rattle.chapter.specs.Sets.{Set, only, _∖_, _⊆_}
-use Rattle.chapter.specs.Context.{Constants, Axioms, SAF-1, SAF-2, SAF-3, Leads}
+use Rattle.machines.specs.Sets.{Set, only, _∖_, _⊆_}
+use Rattle.machines.specs.Context.{Axioms, SAF-3, Leads}
 use Rattle.chapter.specs.Reading.{constantsOf}
 
 -- whoever may be in a location may be in one that exists
@@ -76,16 +76,6 @@ axioms r s =
         go (onward {l} {m} ne e way) a = go way (subst A (sym e) (on l a .1))
 
 -- ---- safety
-
-module _ (c : Constants) (ax : Axioms c) where
-  pub saf-2 : SAF-2 c
-  saf-2 p l a =
-      ⊎-elim (λ is. subst (λ (x : ℕ). (m : ℕ) × c .aut p m × c .«com» x m) (sym is) (ax .axm1-7 p (ax .axm0-1 p l a .0)))
-      (λ is-not. (c .exit l, ax .axm1-6 p l a is-not, ax .axm1-5 l (ax .axm0-1 p l a .1, is-not))) (same-or-not l (c .out))
-
-  -- "it is sufficient to prove .. aut ⊆ aut ; com⁻¹", "because we already have the invariant property sit ⊆ aut"
-  pub saf-1 : (sit : ℕ → ℕ) → ((p : ℕ) → c .P p → c .aut p (sit p)) → SAF-1 c sit
-  saf-1 sit placed p h = saf-2 p (sit p) (placed p h)
 
 leads : (r : Record) → Sound r → (p : ℕ) → p < r .people → {l : ℕ} {way : List ℕ} → SafeWay (planOf r) (r .right) p l way
     → Leads (constantsOf r) p l way

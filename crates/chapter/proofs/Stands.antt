@@ -18,18 +18,18 @@ use Rattle.phases.specs.Phase.{free, read, granted, green, walked, expired, den
 use Rattle.record.specs.Doors.{freshRecord, doorOf, Shaped}
 use Rattle.phases.specs.Kinds.{allows, numberOfKind}
 use Rattle.record.specs.Sound.{Sound}
-use Rattle.door.specs.declared.does.Does.{Does}
-use Rattle.door.specs.Does.{effect}
+use Rattle.door_does.specs.declared.Does.{Does}
+use Rattle.door_does.specs.Does.{effect}
 use Rattle.record.specs.Steps.{First, doing, reasonFor, stepOf}
 use Rattle.tables.proofs.Cases.{same-or-not, one-of, either}
 use Rattle.record.proofs.Laws.{Allowed, done-did, denied-first, becomes, door-after}
 use Rattle.record.proofs.Fresh.{fresh-free, fresh-outside}
-use Rattle.chapter.specs.Sets.{dom, _∪_}
-use Rattle.chapter.specs.M3 as m3
-use Rattle.chapter.specs.M3.{Maps, dap, mCard}
-use Rattle.chapter.specs.M4 as m4
-use Rattle.chapter.specs.M4.{Sets, mAckn, mAccept, mRefuse}
-use Rattle.chapter.specs.M4.{Event, CARD, pass, ACCEPT, PASS, off-grn, REFUSE, OFF-RED, off-red, ACKN}
+use Rattle.machines.specs.Sets.{dom, _∪_}
+use Rattle.machines.specs.M3 as m3
+use Rattle.machines.specs.M3.{Maps, dap, mCard}
+use Rattle.machines.specs.M4 as m4
+use Rattle.machines.specs.M4.{Sets, mAckn, mAccept, mRefuse}
+use Rattle.machines.specs.M4.{Event, CARD, pass, ACCEPT, PASS, off-grn, REFUSE, OFF-RED, off-red, ACKN}
 use Rattle.chapter.specs.Reading.{constantsOf, isIn, DoorIn, CardAt, stateOf, stateOf3, StandsFor, Enabled, Idle, FirstFailing}
 use Rattle.chapter.specs.Reading.{card, grant, denial, green-order, walk, expiry, passage, lapse, red-order, dimming, darkness, acknowledgement}
 use Rattle.chapter.specs.Panel.{doorAt, Live}

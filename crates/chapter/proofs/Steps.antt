@@ -18,19 +18,19 @@ use Rattle.record.specs.Doors.{doorOf, Shaped}
 use Rattle.phases.specs.Kinds.{allows, namesPerson, numberOfKind}
 use Rattle.granting.specs.Grants.{GrantAt}
 use Rattle.record.specs.Sound.{Sound}
-use Rattle.door.specs.Does.{effect}
+use Rattle.door_does.specs.Does.{effect}
 use Rattle.record.specs.Steps.{reasonFor, Admitted, doing, stepOf}
 use Rattle.tables.proofs.Cases.{same-or-not, one-of}
 use Rattle.record.proofs.Tells.{sound-tells}
 use Rattle.record.proofs.Right.{admitted, admits}
 use Rattle.record.proofs.Laws.{Allowed, allowed-does, act-done, done-did, plan-stays, others-stay, places-stay, passed-moves, becomes, door-after, tick-done}
-use Rattle.chapter.specs.Sets.{Set}
-use Rattle.chapter.specs.Machines.{State, Same}
-use Rattle.chapter.specs.M2.{Acceptable}
-use Rattle.chapter.specs.M3.{Maps, dap, mCard}
-use Rattle.chapter.specs.M4 as m4
-use Rattle.chapter.specs.M4.{Sets, BLR, mAckn, mAccept, GRN, mPass, mOff-grn, mRefuse, RED, mOff-red}
-use Rattle.chapter.specs.M4.{Event, CARD, accept, refuse, pass, ACCEPT, PASS, OFF-GRN, off-grn, REFUSE, OFF-RED, off-red, ACKN}
+use Rattle.machines.specs.Sets.{Set}
+use Rattle.machines.specs.Machines.{State, Same}
+use Rattle.machines.specs.M2.{Acceptable}
+use Rattle.machines.specs.M3.{Maps, dap, mCard}
+use Rattle.machines.specs.M4 as m4
+use Rattle.machines.specs.M4.{Sets, BLR, mAckn, mAccept, GRN, mPass, mOff-grn, mRefuse, RED, mOff-red}
+use Rattle.machines.specs.M4.{Event, CARD, accept, refuse, pass, ACCEPT, PASS, OFF-GRN, off-grn, REFUSE, OFF-RED, off-red, ACKN}
 use Rattle.chapter.specs.Reading.{constantsOf, isIn, DoorIn, CardAt, stateOf, StandsFor, Enabled, Idle}
 use Rattle.chapter.specs.Reading.{card, grant, denial, green-order, walk, expiry, passage, lapse, red-order, dimming, darkness, acknowledgement}
 use Rattle.chapter.proofs.Invariants.{in-BLR}

@@ -36,19 +36,20 @@ use Rattle.record.specs.Steps.{stepOf}
 use Rattle.record.specs.Run.{lastOf}
 use Rattle.phases.specs.Kinds.{StepRow}
 use Rattle.record.proofs.Laws.{refused-stays}
-use Rattle.chapter.specs.Context.{Constants, Axioms, SAF-1, SAF-2, SAF-3, Leads}
-use Rattle.chapter.specs.Machines.{State, Same}
+use Rattle.machines.specs.Context.{Constants, Axioms, SAF-1, SAF-2, SAF-3, Leads}
+use Rattle.machines.specs.Machines.{State, Same}
 use Rattle.chapter.specs.Whole.{Chapter}
-use Rattle.chapter.specs.M0 as m0
-use Rattle.chapter.specs.M1 as m1
-use Rattle.chapter.specs.M3.{dap}
-use Rattle.chapter.specs.M4 as m4
+use Rattle.machines.specs.M0 as m0
+use Rattle.machines.specs.M1 as m1
+use Rattle.machines.specs.M3.{dap}
+use Rattle.machines.specs.M4 as m4
 use Rattle.chapter.specs.Reading.{constantsOf, stateOf, stateOf3, stateOf2, StandsFor, Enabled, Idle, FirstFailing}
-use Rattle.chapter.specs.Panel.{StartOfEach, OneMove, RunOfEach, Live}
-use Rattle.chapter.proofs.Site.{axioms, saf-1, saf-2, saf-3, way-leads}
+use Rattle.chapter.specs.Panel.{StartOfEach, OneMove, RunOfEach, EQP-3, Live}
+use Rattle.machines.proofs.Safety.{saf-1, saf-2}
+use Rattle.chapter.proofs.Site.{axioms, saf-3, way-leads}
 use Rattle.chapter.proofs.Steps.{follows, enabled, ticks}
 use Rattle.chapter.proofs.Stands.{stands-once, idle-stands, live, fresh-starts, first-failing}
-use Rattle.chapter.proofs.Refine as refine
+use Rattle.machines.proofs.Refine as refine
 use Rattle.chapter.proofs.Panel as panel
 
 -- ---- steps and events
@@ -106,9 +107,9 @@ the-chapter c ax =
     record {
       M0-keeps = refine.M0-keeps c ax;
       M1-keeps = refine.M1-keeps c ax;
-      M2-keeps = panel.M2-keeps c ax;
-      M3-keeps = panel.M3-keeps c ax;
-      M4-keeps = panel.M4-keeps c ax;
+      M2-keeps = refine.M2-keeps c ax;
+      M3-keeps = refine.M3-keeps c ax;
+      M4-keeps = refine.M4-keeps c ax;
       M1-refines-M0 = refine.M1-refines-M0 c ax;
       M2-refines-M1 = refine.M2-refines-M1 c ax;
       M3-refines-M2 = refine.M3-refines-M2 c ax;
@@ -174,7 +175,7 @@ open-for-one c s all d g =
     (who .0, who .1, inv2 .inv2-2 (who .0) d (who .1), inv2 .inv2-3 (who .0) d (who .1), λ q m. inv2 .inv2-1 .back q (who .0) d m (who .1))
 
 -- EQP-3: no door has both its lights on.
-pub one-light : (c : Constants) (s : State m4.names) → m4.All c s → m4.EQP-3 s
+pub one-light : (c : Constants) (s : State m4.names) → m4.All c s → EQP-3 s
 one-light c s all d lit =
     let inv4 = all .1 in
     all .0 .0 .1 .inv2-7 d (inv4 .inv4-1 d .0 (inl (inv4 .inv4-4 d (lit .0))), inv4 .inv4-5 d .0 (inl (inv4 .inv4-7 d (lit .1))))

@@ -13,9 +13,9 @@ use Rattle.tables.specs.Tables.{Plan}
 use Rattle.record.specs.Doors.{planOf, doorOf}
 use Rattle.granting.specs.Grants.{GrantAt}
 use Rattle.tables.proofs.Cases.{same-or-not}
-use Rattle.chapter.specs.Sets.{Set, Relation, only, _∪_, _∖_, _≐_}
+use Rattle.machines.specs.Sets.{Set, Relation, only, _∪_, _∖_, _≐_}
 use Rattle.chapter.specs.Reading.{isIn, DoorIn, CardAt}
-use Rattle.chapter.specs.M4.{Sets, setNo, BLR, mAckn, mAccept, GRN, mPass, mOff-grn, mRefuse, RED, mOff-red}
+use Rattle.machines.specs.M4.{Sets, setNo, BLR, mAckn, mAccept, GRN, mPass, mOff-grn, mRefuse, RED, mOff-red}
 
 -- ---- sets of doors
 

@@ -1,12 +1,4 @@
--- The machines of 001, "A Location Access Controller", as the chapter says them, and the reading of a record as a state.
-pub mod Sets
-pub mod Machines
-pub mod Context
-pub mod M0
-pub mod M1
-pub mod M2
-pub mod M3
-pub mod M4
+-- What 001, "A Location Access Controller", claims of its machines, the reading of a record as a state, and the panel among them.
 pub mod Whole
 pub mod Reading
 pub mod Panel

@@ -1,4 +1,5 @@
--- The panel among the machines: where it starts, what each row of a list of steps is to each machine, and that no door is stuck.
+-- The panel among the machines: where it starts, what each row of a list of steps is to each machine, what its lights show, and that
+-- no door is stuck.
 use Prim.Native.Nat.{ℕ}
 use mathlib.Core.Path.{_≡_}
 use mathlib.Core.List.{List, [], _∷_}
@@ -8,14 +9,16 @@ use Rattle.phases.specs.declared.answer.Answer.the-variants.{Done}
 use Rattle.phases.specs.Kinds.{StepRow}
 use Rattle.record.specs.Steps.{stepOf}
 use Rattle.record.specs.Run.{rowOf}
-use Rattle.chapter.specs.Context.{Constants}
-use Rattle.chapter.specs.Machines.{Move, event, skip, seen, MachineStep}
-use Rattle.chapter.specs.M0 as m0
-use Rattle.chapter.specs.M1 as m1
-use Rattle.chapter.specs.M2 as m2
-use Rattle.chapter.specs.M3 as m3
-use Rattle.chapter.specs.M4 as m4
-use Rattle.chapter.specs.M4.{Event, CARD, accept, refuse, pass, ACCEPT, PASS, OFF-GRN, off-grn, REFUSE, OFF-RED, off-red, ACKN}
+use Rattle.machines.specs.Sets.{Empty, _∩_}
+use Rattle.machines.specs.Context.{Constants}
+use Rattle.machines.specs.Machines.{State, Move, event, skip, seen, MachineStep}
+use Rattle.machines.specs.M0 as m0
+use Rattle.machines.specs.M1 as m1
+use Rattle.machines.specs.M2 as m2
+use Rattle.machines.specs.M3 as m3
+use Rattle.machines.specs.M4 as m4
+use Rattle.machines.specs.M4.{GRN, RED}
+use Rattle.machines.specs.M4.{Event, CARD, accept, refuse, pass, ACCEPT, PASS, OFF-GRN, off-grn, REFUSE, OFF-RED, off-red, ACKN}
 use Rattle.chapter.specs.Reading.{constantsOf, stateOf, stateOf3, stateOf2, stateOf1, StandsFor, Idle}
 
 -- ---- the start
@@ -69,6 +72,12 @@ pub data RunOfEach (c : Constants) : Record → List StepRow → Type 0 where
   stop : {r : Record} → RunOfEach c r []
   step : {r : Record} {row : StepRow} {rows : List StepRow} (o : Move Event) → MoveOf r row o → StepOfEach c r o (rowOf r row .next)
       → RunOfEach c (rowOf r row .next) rows → RunOfEach c r (row ∷ rows)
+
+-- ---- the lights
+
+-- EQP-3: "Each card reader has two lights: one green light and one red light", of which one is on at most
+abbrev pub EQP-3 : State m4.names → Type 0
+EQP-3 s = Empty (s .set GRN ∩ s .set RED)
 
 -- ---- no door is stuck
 

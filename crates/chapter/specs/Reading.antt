@@ -14,17 +14,17 @@ use Rattle.phases.specs.declared.table.Kind.the-variants.{Card, Decide, Green, 
 use Rattle.phases.specs.Phase.{free, read, granted, green, walked, expired, denied, red, dimmed, closed}
 use Rattle.record.specs.Doors.{planOf}
 use Rattle.granting.specs.Grants.{GrantAt}
-use Rattle.chapter.specs.Sets.{dom}
-use Rattle.chapter.specs.Context.{Constants}
-use Rattle.chapter.specs.Machines.{State}
-use Rattle.chapter.specs.M0 as m0
-use Rattle.chapter.specs.M2 as m2
-use Rattle.chapter.specs.M2.{Acceptable}
-use Rattle.chapter.specs.M3 as m3
-use Rattle.chapter.specs.M3.{Maps, dap, mCard}
-use Rattle.chapter.specs.M4.{Sets, BLR, mAckn, mAccept, GRN, mPass, mOff-grn, mRefuse, RED, mOff-red}
-use Rattle.chapter.specs.M4.{Event, CARD, accept, refuse, pass, ACCEPT, PASS, OFF-GRN, off-grn, REFUSE, OFF-RED, off-red, ACKN}
-use Rattle.chapter.specs.M4 as m4
+use Rattle.machines.specs.Sets.{dom}
+use Rattle.machines.specs.Context.{Constants}
+use Rattle.machines.specs.Machines.{State}
+use Rattle.machines.specs.M0 as m0
+use Rattle.machines.specs.M2 as m2
+use Rattle.machines.specs.M2.{Acceptable}
+use Rattle.machines.specs.M3 as m3
+use Rattle.machines.specs.M3.{Maps, dap, mCard}
+use Rattle.machines.specs.M4.{Sets, BLR, mAckn, mAccept, GRN, mPass, mOff-grn, mRefuse, RED, mOff-red}
+use Rattle.machines.specs.M4.{Event, CARD, accept, refuse, pass, ACCEPT, PASS, OFF-GRN, off-grn, REFUSE, OFF-RED, off-red, ACKN}
+use Rattle.machines.specs.M4 as m4
 
 -- ---- the constants of a site
 

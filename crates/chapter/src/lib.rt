@@ -1,2 +1,2 @@
-// The machines of the location access chapter, from the initial model to the fourth refinement, and the record's steps among
-// them: the definitions are in specs/, the theorems in proofs/. There is no function here.
+// A record as a state of the machines of the location access chapter, and its steps among their events: the definitions are in
+// specs/, the theorems in proofs/. There is no function here.

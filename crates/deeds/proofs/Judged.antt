@@ -13,9 +13,9 @@ use Rattle.phases.specs.declared.table.Kind.the-variants.{Card, Decide, Green, 
 use Rattle.phases.specs.declared.answer.Answer.the-variants.{NoSuch, NotAllowed, Unsound}
 use Rattle.phases.specs.Table.{asked}
 use Rattle.door.specs.declared.Door.{Door}
-use Rattle.door.specs.declared.does.Does.{Does}
+use Rattle.door_does.specs.declared.Does.{Does}
 use Rattle.door.specs.Door.{doorIn}
-use Rattle.door.specs.Does.{effect}
+use Rattle.door_does.specs.Does.{effect}
 use Rattle.granting.specs.Reasons.{firstReason}
 use Rattle.deeds.specs.declared.Deed.{Deed}
 use Rattle.deeds.specs.declared.Deed.the-variants.{Tells}

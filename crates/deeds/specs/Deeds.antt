@@ -10,10 +10,10 @@ use Rattle.phases.specs.declared.table.Kind.{Kind}
 use Rattle.phases.specs.declared.answer.Answer.the-variants.{Done, NoSuch, NotAllowed, Unsound}
 use Rattle.phases.specs.Kinds.{namesPerson}
 use Rattle.phases.specs.Table.{asked}
-use Rattle.door.specs.declared.does.Does.{Does}
-use Rattle.door.specs.declared.does.Does.the-variants.{Stays, Turns, Moves}
+use Rattle.door_does.specs.declared.Does.{Does}
+use Rattle.door_does.specs.declared.Does.the-variants.{Stays, Turns, Moves}
 use Rattle.door.specs.Door.{doorIn}
-use Rattle.door.specs.Does.{effect}
+use Rattle.door_does.specs.Does.{effect}
 use Rattle.granting.specs.Reasons.{firstReason}
 use Rattle.deeds.specs.declared.Deed.{Deed}
 use Rattle.deeds.specs.declared.Deed.the-variants.{Tells, Puts, Leads}

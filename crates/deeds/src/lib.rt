@@ -9,7 +9,8 @@ ghost use Rattle.granting.specs.Reasons.{firstReason};
 ghost use Rattle.deeds.specs.Deeds.{existAmong, deedOf, judgedOf};
 ghost use Rattle.deeds.specs.Deeds.{toldOf, placesAfter, phasesAfter, holdersAfter, countsAfter};
 use door::Door;
-use door::does::Does;
+use door_does::Does;
+use door_does::step::does;
 use granting::first_reason;
 use lists::byte_at;
 use lists::put_byte;
@@ -149,8 +150,8 @@ pub fn judge<'a>(
         door,
         held,
     );
-    let does = now.does(kind, named, why);
-    deed_of(does, now.phase, held, byte_at(destination, door))
+    let done = does(now, kind, named, why);
+    deed_of(done, now.phase, held, byte_at(destination, door))
 }
 
 // The lists with this door so.

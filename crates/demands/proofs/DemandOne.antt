@@ -21,14 +21,16 @@ use Rattle.tables.proofs.Cases.{either}
 use Rattle.verdict.specs.declared.Verdict.{Verdict}
 use Rattle.verdict.specs.declared.Verdict.the-variants.{Accepted, TooLong, BadRow, OutOfRange, Twice, NoSite, NoExit, Stray, NoDoor, NoRight, ShutOut}
 use Rattle.site_sheet.specs.declared.SiteRead.{SiteRead}
-use Rattle.site_sheet.specs.declared.Reading.{Reading}
-use Rattle.site_sheet.specs.declared.Draft.{Draft}
-use Rattle.site_sheet.specs.Line.{siteHeaderAt}
-use Rattle.site_sheet.specs.Draft.{planIn}
-use Rattle.site_sheet.specs.Site.{soundFault, firstPlace, secondPlace, blankRecord, acceptedSite, unlessFound, unlessPair, judged, settled, afterHeader, siteAt, siteOf}
+use Rattle.site_lines.specs.declared.Reading.{Reading}
+use Rattle.site_lines.specs.declared.Draft.{Draft}
+use Rattle.site_lines.specs.Line.{siteHeaderAt}
+use Rattle.site_lines.specs.Draft.{planIn}
+use Rattle.site_lines.specs.Taking.{soundFault}
+use Rattle.site_sheet.specs.Site.{firstPlace, secondPlace, blankRecord, acceptedSite, unlessFound, unlessPair, judged, settled, afterHeader, siteAt, siteOf}
 use Rattle.grammar.specs.Sizes.{limit}
 use Rattle.site_sheet.specs.Site as site
-use Rattle.site_sheet.proofs.Theorems.{line-exactly, rows-taken, given-exactly}
+use Rattle.site_lines.proofs.Theorems.{line-exactly, rows-taken}
+use Rattle.site_sheet.proofs.Theorems.{given-exactly}
 use Rattle.demands.specs.DemandOne.{SiteTells, SiteAnswers}
 
 pub number-most : (v : Verdict) → site.verdictNo v ≤ 10

@@ -21,13 +21,13 @@ use Rattle.phases.specs.declared.table.Kind.{Kind}
 use Rattle.phases.specs.declared.table.Kind.the-variants.{Card, Decide, Green, Red, Walk, Tick, Passed, Lapsed, Dark, Ack, Unknown}
 use Rattle.phases.specs.declared.answer.Answer.the-variants.{Done}
 use Rattle.record.specs.declared.steps.Step.{Step}
-use Rattle.asked.specs.declared.WayAnswer.the-variants.{Length}
+use Rattle.asked_way.specs.declared.WayAnswer.the-variants.{Length}
 use Rattle.phases.specs.Phase.{free, read, granted, green, walked, expired, denied, red, dimmed, closed, greenSpan, redSpan}
 use Rattle.record.specs.Doors.{planOf, doorOf, Shaped}
 use Rattle.phases.specs.Kinds.{StepRow, allows, namesPerson}
 use Rattle.record.specs.Sound.{Sound}
-use Rattle.door.specs.declared.does.Does.{Does}
-use Rattle.door.specs.Does.{burns, effect}
+use Rattle.door_does.specs.declared.Does.{Does}
+use Rattle.door_does.specs.Does.{burns, effect}
 use Rattle.record.specs.Steps.{reasonFor, Admitted, act, doing, stepOf, exist}
 use Rattle.record.specs.Run.{lastOf}
 use Rattle.record.specs.Lights.{NoGreenNoWalk, NoRed}
@@ -39,11 +39,11 @@ use Rattle.record.proofs.Tells.{sound-tells}
 use Rattle.record.proofs.Laws.{done-did, barred-12, act-done, becomes, door-after, sound-stays, shaped-stays, plan-stays, rights-stay, run-sound, run-shaped, run-plan, run-rights, denied-first, granted-exactly, green-burns, green-expires, red-burns, red-dims}
 use Rattle.verdict.specs.declared.Verdict.the-variants.{Accepted}
 use Rattle.grammar.specs.Sizes.{limit}
-use Rattle.site_sheet.specs.Draft.{planIn}
+use Rattle.site_lines.specs.Draft.{planIn}
 use Rattle.site_sheet.specs.Site.{siteOf}
 use Rattle.site_sheet.proofs.Theorems.{accepted-holds}
 use Rattle.chapter.proofs.Theorems.{fresh-reads, starts-each, step-acts, step-follows, tick-idles, refusal-alters-nothing, stands-for-one, idle-stands-for-none, denial-first}
-use Rattle.chapter.specs.M4 as m4
+use Rattle.machines.specs.M4 as m4
 use Rattle.chapter.specs.Reading.{constantsOf, stateOf}
 use Rattle.chapter.specs.Panel.{StartOfEach}
 use Rattle.demands.specs.DemandTwo.{WayAsked, WayOutside, StepIsEvent, Light, Decided, SameTables, NothingToAlter, no-light, green-whole, red-whole, CountsDown}

@@ -21,8 +21,8 @@ use Rattle.record.specs.Doors.{planOf, doorOf, Shaped}
 use Rattle.phases.specs.Kinds.{StepRow, allows}
 use Rattle.record.specs.Sound.{Sound}
 use Rattle.record.specs.SoundTest.{soundB}
-use Rattle.door.specs.declared.does.Does.{Does}
-use Rattle.door.specs.declared.does.Does.the-variants.{Stays, Turns, Moves}
+use Rattle.door_does.specs.declared.Does.{Does}
+use Rattle.door_does.specs.declared.Does.the-variants.{Stays, Turns, Moves}
 use Rattle.record.specs.Steps.{act, exist, soundStep, stepOf}
 use Rattle.record.specs.Run.{rowOf, repliesOf}
 use Rattle.tables.proofs.Cases.{either}

@@ -25,13 +25,14 @@ use Rattle.grammar.specs.Where.{RowHolds}
 use Rattle.grammar.specs.Rows.{rowsFrom}
 use Rattle.grammar.specs.Sizes.{limit}
 use Rattle.phases.specs.Kinds.{StepRow}
-use Rattle.site_sheet.specs.declared.SiteLine.{SiteLine}
-use Rattle.site_sheet.specs.Line.{siteLineAt}
-use Rattle.site_sheet.specs.Draft.{blankDraft}
-use Rattle.site_sheet.specs.Says.{SaysSo, TextSaysLines}
-use Rattle.site_sheet.specs.Site.{linesIn, readLines, siteOf, blankRecord, firstPlace, secondPlace}
+use Rattle.site_lines.specs.declared.SiteLine.{SiteLine}
+use Rattle.site_lines.specs.Line.{siteLineAt}
+use Rattle.site_lines.specs.Draft.{blankDraft}
+use Rattle.site_lines.specs.Says.{SaysSo, TextSaysLines}
+use Rattle.site_lines.specs.Taking.{linesIn, readLines}
+use Rattle.site_sheet.specs.Site.{siteOf, blankRecord, firstPlace, secondPlace}
 use Rattle.site_sheet.specs.Site as site
-use Rattle.site_sheet.specs.Gives.{RowsTold, Gives}
+use Rattle.site_lines.specs.Gives.{RowsTold, Gives}
 use Rattle.steps_sheet.specs.declared.Heading.{Heading}
 use Rattle.steps_sheet.specs.declared.StepsLine.the-variants as line
 use Rattle.steps_sheet.specs.Says.{Steps, SaysStep, BadForm, TextSaysSteps, HeadingSays}

@@ -15,7 +15,7 @@ use Rattle.phases.specs.declared.table.Kind.{Kind}
 use Rattle.phases.specs.declared.table.Kind.the-variants.{Decide, Green, Red, Tick}
 use Rattle.phases.specs.declared.answer.Answer.the-variants.{Done, NotAllowed}
 use Rattle.record.specs.declared.steps.Step.{Step}
-use Rattle.asked.specs.declared.WayAnswer.the-variants.{Length}
+use Rattle.asked_way.specs.declared.WayAnswer.the-variants.{Length}
 use Rattle.phases.specs.Phase.{granted, green, expired, denied, red, dimmed, greenSpan, redSpan}
 use Rattle.door.specs.Door.{door}
 use Rattle.record.specs.Doors.{planOf, doorOf, Shaped}
@@ -28,12 +28,12 @@ use Rattle.record.specs.Questions.{wayAnswerOf, wayWritten}
 use Rattle.verdict.specs.declared.Verdict.the-variants.{Accepted}
 use Rattle.grammar.specs.Sizes.{limit}
 use Rattle.site_sheet.specs.Site.{siteOf}
-use Rattle.site_sheet.specs.Gives.{Obeys}
+use Rattle.site_lines.specs.Gives.{Obeys}
 use Rattle.site_sheet.specs.Accepted.{AcceptedRecord}
-use Rattle.chapter.specs.Context.{Constants, Axioms}
-use Rattle.chapter.specs.Machines.{Same}
-use Rattle.chapter.specs.M4.{Event}
-use Rattle.chapter.specs.M4 as m4
+use Rattle.machines.specs.Context.{Constants, Axioms}
+use Rattle.machines.specs.Machines.{Same}
+use Rattle.machines.specs.M4.{Event}
+use Rattle.machines.specs.M4 as m4
 use Rattle.chapter.specs.Whole.{Chapter}
 use Rattle.chapter.specs.Reading.{constantsOf, stateOf, StandsFor, Enabled, Idle, FirstFailing}
 use Rattle.chapter.specs.Panel.{StartOfEach, OneMove, RunOfEach, Live}

@@ -16,14 +16,15 @@ use Rattle.record.specs.Steps.{First}
 use Rattle.verdict.specs.declared.Verdict.{Verdict}
 use Rattle.grammar.specs.declared.cut.Cells.{Cells}
 use Rattle.grammar.specs.Rows.{rowsFrom}
-use Rattle.site_sheet.specs.declared.SiteLine.{SiteLine}
-use Rattle.site_sheet.specs.declared.Reading.{Reading}
+use Rattle.site_lines.specs.declared.SiteLine.{SiteLine}
+use Rattle.site_lines.specs.declared.Reading.{Reading}
 use Rattle.site_sheet.specs.declared.SiteRead.{SiteRead}
-use Rattle.site_sheet.specs.Line.{siteLineAt}
-use Rattle.site_sheet.specs.Draft.{blankDraft}
-use Rattle.site_sheet.specs.Site.{linesIn, readLines, siteOf, firstPlace, secondPlace}
+use Rattle.site_lines.specs.Line.{siteLineAt}
+use Rattle.site_lines.specs.Draft.{blankDraft}
+use Rattle.site_lines.specs.Taking.{linesIn, readLines}
+use Rattle.site_sheet.specs.Site.{siteOf, firstPlace, secondPlace}
 use Rattle.site_sheet.specs.Site as site
-use Rattle.site_sheet.specs.Gives.{Gives}
+use Rattle.site_lines.specs.Gives.{Gives}
 use Rattle.steps_sheet.specs.declared.Heading.{Heading}
 use Rattle.steps_sheet.specs.declared.Decoded.{Decoded}
 use Rattle.steps_sheet.specs.Says.{Steps, TextSaysSteps, HeadingSays}

@@ -1,4 +1,2 @@
--- One door, as paper 01 writes it: what is kept of it, what fits a phase, and what a step does to its door.
+-- One door, as paper 01 writes it: what is kept of it.
 pub mod Door
-pub mod Fits
-pub mod Does

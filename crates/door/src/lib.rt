@@ -1,12 +1,7 @@
-// One door: what is kept of it, what its phase decides (`phase`), whether its fields fit its phase
-// (`fits`), and what a step does to it (`does`).
+// One door: what is kept of it. Whether its fields fit its phase stands in the crate `door_fits`, and what a step does to
+// it in the crate `door_does`.
 ghost use mathlib.Core.Path.{_≡_};
 ghost use Rattle.door.specs.Door.{door, freeDoor, doorIn};
-
-pub mod does;
-mod fits;
-pub mod phase;
-
 use lists::byte_at;
 use lists::word_at;
 use phases::phase::Phase;
@@ -20,7 +15,7 @@ pub struct Door {
 
 impl Door {
     // A door in this phase, with this person and this countdown.
-    pub(crate) fn new(phase: u8, holder: u16, count: u16) -> Self
+    pub fn new(phase: u8, holder: u16, count: u16) -> Self
         ensures { λ r. ⌜ r ≡ door phase holder count ⌝ }
     {
         Door {

@@ -19,7 +19,7 @@ use Rattle.grammar.specs.Meaning.{CutRow}
 use Rattle.grammar.proofs.Written.{row-run, by-crlf, by-end}
 use Rattle.grammar.proofs.Found.{in-fresh, RowEnds, row-crlf, row-sheet, row-found}
 use Rattle.grammar.proofs.Unique.{no-row-at}
-use Rattle.grammar.proofs.Contents.{row-holds}
+use Rattle.grammar.proofs.Holding.{row-holds}
 use Rattle.grammar.proofs.Reading.{cut-behind, none-behind, cut-there}
 
 -- a row at the front of a text is read, and the rest of the text is left

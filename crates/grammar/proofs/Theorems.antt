@@ -1,31 +1,25 @@
 -- The theorems of the crate `grammar`: the cutters' answers are what the grammar says.
 -- Assumes nothing.
-use Prim.Native.Nat.{ℕ, _+_, _-_, _≤_, _<_}
+use Prim.Native.Nat.{ℕ, _+_, _-_, _≤_}
 use native.Mathlib.Omega.{arith}
 use mathlib.Core.Path.{_≡_, refl, ap, _∙_}
 use mathlib.Core.Logic.{_↔_}
-use mathlib.Core.Bool.{false, true}
 use mathlib.Core.List.{List, [], _∷_, _++_}
 use lib.ListN.{length, drop}
-use Rattle.grammar.specs.declared.cut.Cell.{Cell}
 use Rattle.grammar.specs.declared.cut.Cells.{Cells}
 use Rattle.grammar.specs.declared.cut.Mode.the-variants.{Fresh}
 use Rattle.grammar.specs.declared.cut.FieldCut.the-variants.{Next, Last, Fault}
 use Rattle.grammar.specs.declared.cut.RowCut.the-variants.{Cut, NoRow, Broken}
-use Rattle.grammar.specs.declared.say.Number.the-variants.{Is}
 use Rattle.grammar.specs.declared.count.RowsCounted.the-variants.{All, UpTo}
-use Rattle.grammar.specs.Grammar.{comma, cr, lf, Field, content, Written, fieldText, Row, WrittenRow, rowText, RowAt, ended, last, Sheet, BeginsWith}
-use Rattle.grammar.specs.Say.{ProperNumber, isWord, saysWords, numberAt, placeAmong}
+use Rattle.grammar.specs.Grammar.{comma, cr, lf, Field, Written, fieldText, Row, WrittenRow, rowText, RowAt, ended, last, Sheet, BeginsWith}
 use Rattle.grammar.specs.Cut.{emptyAt, noCells, fieldFrom, cutField, cutRow}
-use Rattle.grammar.specs.Where.{holdsQuote, cellOf, cellsOf, CellHolds, RowHolds}
+use Rattle.grammar.specs.Where.{cellOf, cellsOf}
 use Rattle.grammar.specs.Rows.{onRow, rowsFrom, countRows}
-use Rattle.grammar.specs.Meaning.{CutRow, SheetOf, BrokenRow, BrokenAfter, FirstFieldFault, Threefold, WordAt}
+use Rattle.grammar.specs.Meaning.{CutRow, SheetOf, BrokenRow, BrokenAfter, FirstFieldFault}
 use Rattle.grammar.proofs.Written as written
 use Rattle.grammar.proofs.Found as found
 use Rattle.grammar.proofs.Unique as unique
 use Rattle.grammar.proofs.Reading as reading
-use Rattle.grammar.proofs.Contents as contents
-use Rattle.grammar.proofs.Naming as naming
 use Rattle.grammar.proofs.Exact as exact
 use Rattle.grammar.proofs.Whole as whole
 use Rattle.grammar.proofs.Fields as broken
@@ -77,25 +71,6 @@ module _ (s : List ℕ) where
   -- They are counted up to a row exactly when they are the rows in front of one that is broken, with the byte where that breaks.
   pub counted-up-to : (n byte : ℕ) → (countRows s ≡ UpTo n byte) ↔ BrokenAfter s n byte
   counted-up-to n byte = whole.count-broken s n byte
-
-  -- A field is a word without quotes exactly when its content is.
-  pub word-is-content : {cell : Cell} (f : Field) (word : List ℕ) → CellHolds s cell f → holdsQuote word ≡ false
-      → (isWord s cell word ≡ true) ↔ (content f ≡ word)
-  word-is-content f word h n = contents.word-exact s f word h n
-
-  -- A field is found at a place among words without quotes exactly when its content is the word there, and no word before it.
-  pub word-is-found : {cell : Cell} (f : Field) (words : List (List ℕ)) (n : ℕ) → CellHolds s cell f → naming.NoQuotes words → n < length words
-      → (placeAmong words s cell ≡ n) ↔ WordAt words (content f) n
-  word-is-found f words n h plain l = naming.place-exact s f words n h plain l
-
-  -- A row says three words without quotes exactly when it has three fields with these contents.
-  pub words-are-contents : {cells : Cells} (r : Row) (x y z : List ℕ) → RowHolds s cells r → holdsQuote x ≡ false → holdsQuote y ≡ false → holdsQuote z ≡ false
-      → (saysWords s cells x y z ≡ true) ↔ Threefold r x y z
-  words-are-contents r x y z h a b c = contents.words-exact s r x y z h a b c
-
-  -- A number is read exactly when the field's content is a proper number, with its value.
-  pub number-is-proper : {cell : Cell} (f : Field) (n : ℕ) → CellHolds s cell f → (numberAt s cell ≡ Is n) ↔ ProperNumber (content f) n
-  number-is-proper f n h = contents.number-exact s f n h
 
 module _ (s : List ℕ) (at : ℕ) (f : Field) (w : Written f) where
   field-read : (t : List ℕ) → drop at s ≡ fieldText f ++ t → cutField s at ≡ fieldFrom (written.modeAfter f) (cellOf at f) (at + length (fieldText f)) t

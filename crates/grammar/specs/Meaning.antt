@@ -2,11 +2,11 @@
 use Prim.Native.Nat.{ℕ, _+_, _-_, _≤_, _<_}
 use mathlib.Core.Path.{_≡_}
 use mathlib.Core.List.{List, [], _∷_, _++_}
-use lib.ListN.{length, getD, take, drop}
+use lib.ListN.{length, take, drop}
 use Rattle.grammar.specs.declared.cut.Cells.{Cells}
-use Rattle.grammar.specs.Grammar.{Field, FieldAt, Row, RowAt, Sheet, BeginsWith, content, fields}
+use Rattle.grammar.specs.Grammar.{Field, FieldAt, Row, RowAt, Sheet, BeginsWith}
 use Rattle.grammar.specs.Cut.{noCells}
-use Rattle.grammar.specs.Where.{cellsOf, RowHolds, fieldOf}
+use Rattle.grammar.specs.Where.{cellsOf, RowHolds}
 
 -- a row that was cut: the grammar has a row there, the cells hold it and lie where it lies, and `next` is where the rest begins
 pub record CutRow (s : List ℕ) (at : ℕ) (cells : Cells) (next : ℕ) : Type 0 where
@@ -62,15 +62,3 @@ pub record FirstFieldFault (s : List ℕ) (at byte : ℕ) : Type 0 where
   pub hopeless : (other : List ℕ) (f : Field) → byte < length s → FieldAt (drop at (take (byte + 1) s ++ other)) f → ⊥
   -- where the sheet ends too soon, it has none itself
   pub too-soon : (f : Field) → FieldAt (drop at s) f → ⊥
-
--- a row of three fields with these contents
-pub record Threefold (r : Row) (first second third : List ℕ) : Type 0 where
-  pub three : length (fields r) ≡ 3
-  pub first-is : content (fieldOf 0 r) ≡ first
-  pub second-is : content (fieldOf 1 r) ≡ second
-  pub third-is : content (fieldOf 2 r) ≡ third
-
--- a content is the word at a place, and no word before it
-pub record WordAt (words : List (List ℕ)) (c : List ℕ) (n : ℕ) : Type 0 where
-  pub is : c ≡ getD words n []
-  pub none-before : (k : ℕ) → k < n → c ≡ getD words k [] → ⊥

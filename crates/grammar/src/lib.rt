@@ -1,7 +1,6 @@
-// What a sheet's text is by RFC 4180, and what a field of it says: definitions and theorems, no functions.
+// What a sheet's text is by RFC 4180: definitions and theorems, no functions.
 //
-// The types are those that `sheet`, `cells` and `reader` answer with. specs/Grammar.antt is the grammar, and proofs/Theorems.antt shows
+// The types are those that `sheet` and `reader` answer with. specs/Grammar.antt is the grammar, and proofs/Theorems.antt shows
 // that what the definitions of specs/ work out byte by byte is what the grammar says.
 pub mod count;
 pub mod cut;
-pub mod say;

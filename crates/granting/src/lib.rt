@@ -5,7 +5,7 @@ ghost use Prim.Native.Nat.{ℕ};
 ghost use Rattle.tables.specs.Tables.{plan};
 ghost use Rattle.granting.specs.Grants.{grantsTo, grantOf, hasGrant};
 ghost use Rattle.granting.specs.Reasons.{firstReason};
-use door::phase::grants;
+use door_fits::grants;
 use lists::byte_at;
 use lists::word_at;
 use phases::answer::Reason;

@@ -7,7 +7,7 @@ ghost use lib.Dec.{leb};
 ghost use Rattle.outside.specs.{Asked};
 use cells::say::number_of;
 use grammar::cut::Cell;
-use grammar::say::Number;
+use saying::Number;
 
 // So many bytes are written where a text has more than its list.
 const NOTHING: usize = 0;

@@ -7,7 +7,8 @@ use Rattle.tables.specs.Tables.{mayBe, orElse, andAlso}
 use Rattle.tables.specs.Below.{leastBelow, orAt}
 use Rattle.phases.specs.Phase.{read, grants}
 use Rattle.door.specs.Door.{door}
-use Rattle.record.specs.Doors.{zeros, putDoor, putAt}
+use Rattle.tables.specs.Zero.{zeros}
+use Rattle.record.specs.Doors.{putDoor, putAt}
 use Rattle.granting.specs.Grants.{grantsTo, grantOf, hasGrant}
 use Rattle.granting.specs.Reasons.{firstReason}
 use Rattle.record.specs.Steps.{reasonFor}

@@ -14,29 +14,31 @@ use Rattle.record.specs.declared.record.Record.{Record}
 use Rattle.record.specs.declared.steps.Step.{Step}
 use Rattle.phases.specs.declared.table.Kind.the-variants.{Decide, Green, Walk}
 use Rattle.phases.specs.Phase.{grants, granted, green, expired, greenSpan}
-use Rattle.record.specs.Doors.{Shaped, zeros}
+use Rattle.record.specs.Doors.{Shaped}
+use Rattle.tables.specs.Zero.{zeros}
 use Rattle.phases.specs.Kinds.{StepRow, allows}
 use Rattle.granting.specs.Grants.{grantsTo, grantOf, hasGrant}
 use Rattle.record.specs.Sound.{Sound}
-use Rattle.door.specs.Does.{effect}
+use Rattle.door_does.specs.Does.{effect}
 use Rattle.granting.specs.Reasons.{firstReason}
 use Rattle.record.specs.Steps.{act, exist, soundStep}
 use Rattle.record.specs.SoundTest.{soundB}
 use Rattle.record.specs.Questions.{wayAnswerOf, wayWritten}
-use Rattle.asked.specs.declared.WayAnswer.the-variants.{Length}
+use Rattle.asked_way.specs.declared.WayAnswer.the-variants.{Length}
 use Rattle.record.specs.Run.{rowOf, lastOf, repliesOf}
 use Rattle.record.proofs.Laws.{sound-steps, sound-stays, shaped-stays, run-sound, run-shaped}
 use Rattle.record.proofs.Tells.{sound-tells}
 use Rattle.grammar.specs.Cut.{bareMove, shutMove, moveOf, endOf, fieldFrom, pushed, rowFrom, cutRow}
 use Rattle.grammar.specs.Rows.{readRows, rowsFrom}
-use Rattle.grammar.specs.Say.{valueFrom, digitsFrom, needlessZero, numberIn, contentAt, sameBytes, isWord, placeIn, placeAmong, namedFrom, saysWords, numberAt}
-use Rattle.asked.specs.Asked.{wayNo, lengthTold}
+use Rattle.saying.specs.Say.{valueFrom, digitsFrom, needlessZero, numberIn, contentAt, sameBytes, isWord, placeIn, placeAmong, namedFrom, saysWords, numberAt}
+use Rattle.asked_way.specs.{wayNo, lengthTold}
 use Rattle.verdict.specs.Numbers.{verdictNo, firstPlace, secondPlace}
 use Rattle.verdict.specs.declared.Verdict.{Verdict}
 use Rattle.verdict.specs.declared.Verdict.the-variants.{Accepted, NoExit, Stray, NoDoor, NoRight, ShutOut}
-use Rattle.site_sheet.specs.Draft.{unmarked, siteRowFits, takeSite, doorRowFits, takeDoor, exitRowFits, takeExit, rightRowFits, takeRight, takeLine}
-use Rattle.site_sheet.specs.Line.{wordNamed, siteLineAt, siteHeaderAt}
-use Rattle.site_sheet.specs.Site.{linesIn, readLines, judged, settled, afterHeader, siteAt, siteOf}
+use Rattle.site_lines.specs.Draft.{unmarked, siteRowFits, takeSite, doorRowFits, takeDoor, exitRowFits, takeExit, rightRowFits, takeRight, takeLine}
+use Rattle.site_lines.specs.Line.{wordNamed, siteLineAt, siteHeaderAt}
+use Rattle.site_lines.specs.Taking.{linesIn, readLines}
+use Rattle.site_sheet.specs.Site.{judged, settled, afterHeader, siteAt, siteOf}
 use Rattle.run_events.specs.Lines.{Line, linesOf, heardOf}
 use Rattle.card_by_card.specs.Serving.{stepAt, ticked}
 use Rattle.card_by_card.specs.Served.{Fresh}

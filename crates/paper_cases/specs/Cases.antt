@@ -6,13 +6,13 @@ use lib.ListN.{getD}
 use Rattle.numbers.specs.Numbers.{doneNo, noExitNo, strayNo, noDoorNo, noRightNo, shutOutNo}
 use Rattle.record.specs.declared.record.Record.{Record}
 use Rattle.phases.specs.declared.table.Kind.the-variants.{Card, Decide, Green, Walk, Passed, Ack}
-use Rattle.asked.specs.Asked.{wayNo, lengthTold}
+use Rattle.asked_way.specs.{wayNo, lengthTold}
 use Rattle.phases.specs.Phase.{granted, green, expired, greenSpan}
 use Rattle.record.specs.Run.{rowOf, lastOf}
 use Rattle.phases.specs.Kinds.{StepRow}
 use Rattle.record.specs.Questions.{wayAnswerOf, wayWritten}
 use Rattle.verdict.specs.Numbers.{verdictNo, firstPlace, secondPlace}
-use Rattle.site_sheet.specs.Line.{doorWord, exitWord, rightWord}
+use Rattle.site_lines.specs.Line.{doorWord, exitWord, rightWord}
 use Rattle.site_sheet.specs.Site.{siteOf}
 use Rattle.run_text.specs.Examples.{line, top, fourDoors, twoExits, threeRights, siteSheet}
 use Rattle.card_by_card.specs.Serving.{stepAt, ticked}

@@ -17,8 +17,8 @@ use Rattle.tables.specs.Rules.{SafeWay}
 use Rattle.tables.proofs.Laws.{clash, and-left, and-right}
 use Rattle.tables.proofs.WayOut.{way-is-safe}
 use Rattle.record.specs.declared.record.Record.{Record}
-use Rattle.asked.specs.declared.PlaceAnswer.the-variants as place
-use Rattle.asked.specs.declared.GrantAnswer.the-variants as grant
+use Rattle.asked_place.specs.declared.PlaceAnswer.the-variants as place
+use Rattle.asked_grant.specs.declared.GrantAnswer.the-variants as grant
 use Rattle.record.specs.Doors.{planOf, Shaped}
 use Rattle.granting.specs.Grants.{GrantAt}
 use Rattle.record.specs.Sound.{Sound}

@@ -14,18 +14,19 @@ use Rattle.told.specs.declared.Found.the-variants as found
 use Rattle.told.specs.declared.WayTold.the-variants as way
 use Rattle.granting.specs.Grants.{grantOf}
 use Rattle.record.specs.declared.record.Record.{Record}
-use Rattle.asked.specs.declared.PlaceAnswer.{PlaceAnswer}
-use Rattle.asked.specs.declared.PlaceAnswer.the-variants as place
-use Rattle.asked.specs.declared.GrantAnswer.{GrantAnswer}
-use Rattle.asked.specs.declared.GrantAnswer.the-variants as grant
-use Rattle.asked.specs.declared.WayAnswer.{WayAnswer}
-use Rattle.asked.specs.declared.WayAnswer.the-variants as answer
+use Rattle.asked_place.specs.declared.PlaceAnswer.{PlaceAnswer}
+use Rattle.asked_place.specs.declared.PlaceAnswer.the-variants as place
+use Rattle.asked_grant.specs.declared.GrantAnswer.{GrantAnswer}
+use Rattle.asked_grant.specs.declared.GrantAnswer.the-variants as grant
+use Rattle.asked_way.specs.declared.WayAnswer.{WayAnswer}
+use Rattle.asked_way.specs.declared.WayAnswer.the-variants as answer
 use Rattle.record.specs.SoundTest.{soundB}
 use Rattle.record.specs.Questions.{askedNo, unlessRefused, placeOf, grantFound, grantedTo}
-use Rattle.asked.specs.Asked.{lengthTold, wayNo, grantTold}
-use Rattle.asked.specs.Asked.{grantNo}
-use Rattle.asked.specs.Asked.{placeTold}
-use Rattle.asked.specs.Asked.{placeNo}
+use Rattle.asked_grant.specs.{grantTold}
+use Rattle.asked_way.specs.{lengthTold, wayNo}
+use Rattle.asked_grant.specs.{grantNo}
+use Rattle.asked_place.specs.{placeTold}
+use Rattle.asked_place.specs.{placeNo}
 use Rattle.record.specs.Questions.{wayFound, wayAnswerOf, wayWritten, wayAskedNo}
 
 pub place-as-said : (r : Record) (p : ℕ) (x : PlaceAnswer) → x ≡ placeOf r p

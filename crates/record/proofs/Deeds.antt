@@ -15,8 +15,8 @@ use Rattle.phases.specs.Kinds.{allows}
 use Rattle.phases.specs.Phase.{closed}
 use Rattle.phases.proofs.Entries.{table-allows}
 use Rattle.door.specs.declared.Door.{Door}
-use Rattle.door.specs.declared.does.Does.{Does}
-use Rattle.door.specs.declared.does.Does.the-variants.{Stays, Turns, Moves}
+use Rattle.door_does.specs.declared.Does.{Does}
+use Rattle.door_does.specs.declared.Does.the-variants.{Stays, Turns, Moves}
 use Rattle.deeds.specs.declared.Deed.{Deed}
 use Rattle.deeds.specs.declared.Deed.the-variants.{Tells}
 use Rattle.deeds.specs.declared.Told.{Told}

@@ -1,28 +1,19 @@
 -- The fresh record of lawful tables is sound, with everyone outside and every door free. Assumes nothing.
-use Prim.Native.Nat.{ℕ, _≤_}
+use Prim.Native.Nat.{ℕ}
 use mathlib.Core.Path.{_≡_, refl, sym, subst}
 use mathlib.Core.Bool.{Bool, true, false≢true}
 use mathlib.Core.List.{List}
-use mathlib.Core.Logic.{⊎-elim}
-use lib.ListN.{length, getD, length-replicate, getD-replicate, List·getD-eq-default}
+use lib.ListN.{length, getD}
 use lib.Dec.{lit≤}
 use Rattle.tables.specs.Tables.{Plan, mayBe, orElse, andAlso, mostPeople, mostLocations, mostDoors}
 use Rattle.tables.specs.Rules.{Lawful}
 use Rattle.record.specs.declared.record.Record.{Record}
 use Rattle.phases.specs.Phase.{keeps, grants, lit, leastCount, mostCount}
 use Rattle.door.specs.Door.{door, freeDoor}
-use Rattle.record.specs.Doors.{doorOf, zeros, freshRecord, Shaped}
-use Rattle.record.specs.Sound.{ZeroBeyond, DoorOk, Sound}
-use Rattle.tables.proofs.Cases.{below-or-not}
-
-pub zeros-long : (n : ℕ) → length (zeros n) ≡ n
-unfolding zeros
-zeros-long n = length-replicate n 0
-
-pub zeros-at : (n i : ℕ) → getD (zeros n) i 0 ≡ 0
-unfolding zeros
-zeros-at n i =
-    ⊎-elim (λ h. getD-replicate n i 0 0 h) (λ h. List·getD-eq-default (zeros n) 0 (subst (λ (k : ℕ). k ≤ i) (sym (zeros-long n)) h)) (below-or-not i n)
+use Rattle.record.specs.Doors.{doorOf, freshRecord, Shaped}
+use Rattle.tables.specs.Zero.{ZeroBeyond}
+use Rattle.record.specs.Sound.{DoorOk, Sound}
+use Rattle.tables.proofs.Zero.{zeros-at, zeros-long}
 
 -- location 0 is everybody's
 may-be-outside : (right : List Bool) (p l : ℕ) → l ≡ 0 → mayBe right p l ≡ true

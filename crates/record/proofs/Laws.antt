@@ -42,9 +42,9 @@ use Rattle.granting.specs.Grants.{GrantAt}
 use Rattle.record.specs.Sound.{Sound}
 use Rattle.record.specs.SoundTest.{soundB}
 use Rattle.phases.specs.Kinds.{StepRow, allows, namesPerson}
-use Rattle.door.specs.declared.does.Does.{Does}
-use Rattle.door.specs.declared.does.Does.the-variants.{Stays, Turns, Moves}
-use Rattle.door.specs.Does.{burns, effect}
+use Rattle.door_does.specs.declared.Does.{Does}
+use Rattle.door_does.specs.declared.Does.the-variants.{Stays, Turns, Moves}
+use Rattle.door_does.specs.Does.{burns, effect}
 use Rattle.record.specs.Steps.{reasonFor, Admitted, First, act, refused, exist, doing, soundStep, stepOf}
 use Rattle.record.specs.Run.{rowOf, lastOf}
 use Rattle.record.specs.Lights.{isTick, ticks, Each, end, step, NoGreenNoWalk, NoRed}

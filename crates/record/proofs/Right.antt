@@ -19,9 +19,9 @@ use Rattle.record.specs.Doors.{doorOf, putDoor, Shaped}
 use Rattle.record.specs.Sound.{DoorOk, Sound}
 use Rattle.phases.specs.Kinds.{allows, namesPerson}
 use Rattle.granting.specs.Grants.{GrantAt, hasGrant}
-use Rattle.door.specs.declared.does.Does.{Does}
-use Rattle.door.specs.declared.does.Does.the-variants.{Stays, Turns, Moves}
-use Rattle.door.specs.Does.{burns, effect}
+use Rattle.door_does.specs.declared.Does.{Does}
+use Rattle.door_does.specs.declared.Does.the-variants.{Stays, Turns, Moves}
+use Rattle.door_does.specs.Does.{burns, effect}
 use Rattle.granting.specs.Reasons.{firstReason}
 use Rattle.record.specs.Steps.{reasonFor, Admitted, First, none, away, barred, busy, act}
 use Rattle.tables.proofs.Cases.{either, same-or-not, one-of}

@@ -14,16 +14,17 @@ use Rattle.tables.specs.Below.{allBelow, Tells}
 use Rattle.tables.specs.Rules.{Lawful}
 use Rattle.tables.proofs.Answers.{lawful-tells}
 use Rattle.tables.proofs.Laws.{clash, denied as untrue, tell-lt, tell-le, tell-eq, tell-itself, tell-and, tell-cond, tell-all, tell-as}
-use Rattle.door.proofs.Fields.{FieldsOk, tell-fields}
+use Rattle.door_fits.proofs.Fields.{FieldsOk, tell-fields}
 use Rattle.door.specs.declared.Door.{Door}
 use Rattle.record.specs.declared.record.Record.{Record}
 use Rattle.phases.specs.Phase.{closed, keeps, grants, lit, leastCount, mostCount}
 use Rattle.door.specs.Door.{freeDoor}
 use Rattle.record.specs.Doors.{planOf, doorOf, Shaped}
 use Rattle.granting.specs.Grants.{GrantAt, hasGrant}
-use Rattle.record.specs.Sound.{ZeroBeyond, Sound}
+use Rattle.tables.specs.Zero.{ZeroBeyond}
+use Rattle.record.specs.Sound.{Sound}
 use Rattle.soundness.specs.SoundTest.{zeroAt, zeroFrom, rightFits, rightsFit, placeFits, placesFit, doorFits, doorsFit}
-use Rattle.door.specs.Fits.{isFree}
+use Rattle.door_fits.specs.Fits.{isFree}
 use Rattle.soundness.specs.SoundTest.{grantFits, grantsFit, soleGrant, soleGrants, zeroBeyond, doorsSound, listsSound}
 use Rattle.record.specs.SoundTest.{soundB}
 use Rattle.tables.proofs.Cases.{below-or-not}

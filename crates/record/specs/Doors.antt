@@ -3,8 +3,9 @@ use Prim.Native.Nat.{ℕ}
 use mathlib.Core.Path.{_≡_}
 use mathlib.Core.Bool.{Bool}
 use mathlib.Core.List.{List}
-use lib.ListN.{length, set, replicate}
+use lib.ListN.{length, set}
 use Rattle.tables.specs.Tables.{Plan, plan, mostPeople, mostLocations, mostDoors}
+use Rattle.tables.specs.Zero.{zeros}
 use Rattle.door.specs.declared.Door.{Door}
 use Rattle.record.specs.declared.record.Record.{Record}
 use Rattle.door.specs.Door.{doorIn}
@@ -42,10 +43,6 @@ putDoor r d c =
 -- the record with person p in location l, and all else as it was
 abbrev pub putAt : Record → ℕ → ℕ → Record
 putAt r p l = recordOf (planOf r) (r .right) (set (r .place) p l) (r .phase) (r .holder) (r .count)
-
--- n zeros, as a list that stays under this name
-unfoldable pub zeros : ℕ → List ℕ
-zeros n = replicate n 0
 
 -- "with everyone in 0 and every door free"
 abbrev pub freshRecord : Plan → List Bool → Record

@@ -12,12 +12,12 @@ use Rattle.told.specs.declared.Found.the-variants as found
 use Rattle.told.specs.declared.WayTold.{WayTold}
 use Rattle.told.specs.declared.WayTold.the-variants as way
 use Rattle.record.specs.declared.record.Record.{Record}
-use Rattle.asked.specs.declared.PlaceAnswer.{PlaceAnswer}
-use Rattle.asked.specs.declared.PlaceAnswer.the-variants as place
-use Rattle.asked.specs.declared.GrantAnswer.{GrantAnswer}
-use Rattle.asked.specs.declared.GrantAnswer.the-variants as grant
-use Rattle.asked.specs.declared.WayAnswer.{WayAnswer}
-use Rattle.asked.specs.declared.WayAnswer.the-variants as answer
+use Rattle.asked_place.specs.declared.PlaceAnswer.{PlaceAnswer}
+use Rattle.asked_place.specs.declared.PlaceAnswer.the-variants as place
+use Rattle.asked_grant.specs.declared.GrantAnswer.{GrantAnswer}
+use Rattle.asked_grant.specs.declared.GrantAnswer.the-variants as grant
+use Rattle.asked_way.specs.declared.WayAnswer.{WayAnswer}
+use Rattle.asked_way.specs.declared.WayAnswer.the-variants as answer
 use Rattle.granting.specs.Grants.{grantOf}
 use Rattle.record.specs.SoundTest.{soundB}
 

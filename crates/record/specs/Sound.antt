@@ -1,27 +1,17 @@
 -- When a record is sound (01, "The record"): one fact for each sentence.
 use Prim.Native.Nat.{ℕ, _≤_, _<_}
 use mathlib.Core.Path.{_≡_}
-use mathlib.Core.Bool.{Bool, true, false}
-use mathlib.Core.List.{List}
+use mathlib.Core.Bool.{true, false}
 use lib.ListN.{length, getD}
-use Rattle.tables.specs.Tables.{Plan, rightAt, mayBe, mostLocations}
+use Rattle.tables.specs.Tables.{mayBe}
 use Rattle.tables.specs.Rules.{Lawful}
+use Rattle.tables.specs.Zero.{ZeroBeyond}
 use Rattle.door.specs.declared.Door.{Door}
 use Rattle.record.specs.declared.record.Record.{Record}
 use Rattle.phases.specs.Phase.{closed, keeps, grants, leastCount, mostCount}
 use Rattle.door.specs.Door.{freeDoor}
 use Rattle.record.specs.Doors.{planOf, doorOf}
 use Rattle.granting.specs.Grants.{GrantAt}
-
--- "Places beyond the counts are 0, and so are location 0's own exit and rights.": what that says of the tables
-pub record ZeroBeyond (site : Plan) (right : List Bool) : Type 0 where
-  pub origins : (d : ℕ) → site .doors ≤ d → getD (site .origin) d 0 ≡ 0
-  pub destinations : (d : ℕ) → site .doors ≤ d → getD (site .destination) d 0 ≡ 0
-  pub exits : (l : ℕ) → site .locations ≤ l → getD (site .exit) l 0 ≡ 0
-  pub rights-of : (p l : ℕ) → site .people ≤ p → l < mostLocations → rightAt right p l ≡ false
-  pub rights-to : (p l : ℕ) → site .locations ≤ l → l < mostLocations → rightAt right p l ≡ false
-  pub exit-of-outside : getD (site .exit) 0 0 ≡ 0
-  pub rights-to-outside : (p : ℕ) → rightAt right p 0 ≡ false
 
 -- "each door's fields fit": c is right for door d of the record
 pub record DoorOk (r : Record) (d : ℕ) (c : Door) : Type 0 where

@@ -12,9 +12,9 @@ use Rattle.phases.specs.declared.answer.Answer.the-variants.{Done, NoSuch, NotA
 use Rattle.phases.specs.Answers.{reasonNone, reasonAway, reasonBarred, reasonBusy}
 use Rattle.record.specs.declared.steps.Step.{Step}
 use Rattle.deeds.specs.declared.Told.{Told}
-use Rattle.door.specs.declared.does.Does.{Does}
-use Rattle.door.specs.declared.does.Does.the-variants.{Stays, Turns, Moves}
-use Rattle.door.specs.Does.{effect}
+use Rattle.door_does.specs.declared.Does.{Does}
+use Rattle.door_does.specs.declared.Does.the-variants.{Stays, Turns, Moves}
+use Rattle.door_does.specs.Does.{effect}
 use Rattle.record.specs.Doors.{planOf, doorOf, putDoor, putAt}
 use Rattle.phases.specs.Kinds.{allows, namesPerson}
 use Rattle.granting.specs.Grants.{GrantAt}

@@ -19,10 +19,10 @@ use Rattle.phases.specs.Answers.{answerNo}
 use Rattle.phases.specs.Kinds.{namesPerson}
 use Rattle.phases.specs.Table.{asked}
 use Rattle.door.specs.declared.Door.{Door}
-use Rattle.door.specs.declared.does.Does.{Does}
-use Rattle.door.specs.declared.does.Does.the-variants.{Stays, Turns, Moves}
+use Rattle.door_does.specs.declared.Does.{Does}
+use Rattle.door_does.specs.declared.Does.the-variants.{Stays, Turns, Moves}
 use Rattle.door.specs.Door.{doorIn}
-use Rattle.door.specs.Does.{effect}
+use Rattle.door_does.specs.Does.{effect}
 use Rattle.granting.specs.Reasons.{firstReason}
 use Rattle.deeds.specs.declared.Deed.{Deed}
 use Rattle.deeds.specs.declared.Deed.the-variants.{Tells as Told-so, Puts, Leads}

@@ -7,13 +7,15 @@ use Rattle.told.specs.Told.{wayToldNo, wayToldLength}
 use Rattle.told.specs.declared.Found.the-variants as found
 use Rattle.told.specs.declared.WayTold.{WayTold}
 use Rattle.told.specs.declared.WayTold.the-variants as told
-use Rattle.asked.specs.declared.PlaceAnswer.{PlaceAnswer}
-use Rattle.asked.specs.declared.PlaceAnswer.the-variants as place
-use Rattle.asked.specs.declared.GrantAnswer.{GrantAnswer}
-use Rattle.asked.specs.declared.GrantAnswer.the-variants as grant
-use Rattle.asked.specs.declared.WayAnswer.{WayAnswer}
-use Rattle.asked.specs.declared.WayAnswer.the-variants as way
-use Rattle.asked.specs.Asked.{lengthTold, wayNo, grantTold, grantNo, placeTold, placeNo}
+use Rattle.asked_place.specs.declared.PlaceAnswer.{PlaceAnswer}
+use Rattle.asked_place.specs.declared.PlaceAnswer.the-variants as place
+use Rattle.asked_grant.specs.declared.GrantAnswer.{GrantAnswer}
+use Rattle.asked_grant.specs.declared.GrantAnswer.the-variants as grant
+use Rattle.asked_way.specs.declared.WayAnswer.{WayAnswer}
+use Rattle.asked_way.specs.declared.WayAnswer.the-variants as way
+use Rattle.asked_place.specs.{placeTold, placeNo}
+use Rattle.asked_grant.specs.{grantTold, grantNo}
+use Rattle.asked_way.specs.{lengthTold, wayNo}
 use Rattle.numbers.specs.Telling.{OneOf}
 use Rattle.record_answers.specs.Enums.{EnumAnswers, EnumUnique}
 use Rattle.numbers.proofs.Alone.{alone}

@@ -22,15 +22,17 @@ use Rattle.door.specs.declared.Door.{Door}
 use Rattle.phases.specs.declared.answer.Answer.{Answer}
 use Rattle.phases.specs.declared.answer.Answer.the-variants.{Done, NoSuch, NotAllowed, Unsound}
 use Rattle.phases.specs.Answers.{answerNo}
-use Rattle.asked.specs.Asked.{lengthTold, wayNo, grantTold, grantNo, placeTold, placeNo}
+use Rattle.asked_place.specs.{placeTold, placeNo}
+use Rattle.asked_grant.specs.{grantTold, grantNo}
+use Rattle.asked_way.specs.{lengthTold, wayNo}
 use Rattle.phases.specs.Phase.{green, denied, red}
 use Rattle.record.specs.Doors.{doorOf, Shaped}
 use Rattle.granting.specs.Grants.{grantOf}
 use Rattle.phases.specs.Kinds.{StepRow, kindOf, allows, namesPerson}
 use Rattle.record.specs.SoundTest.{soundB}
-use Rattle.door.specs.declared.does.Does.{Does}
-use Rattle.door.specs.declared.does.Does.the-variants.{Stays, Turns, Moves}
-use Rattle.door.specs.Does.{effect}
+use Rattle.door_does.specs.declared.Does.{Does}
+use Rattle.door_does.specs.declared.Does.the-variants.{Stays, Turns, Moves}
+use Rattle.door_does.specs.Does.{effect}
 use Rattle.record.specs.Steps.{reasonFor, act, refused, doing, exist, soundStep, stepOf}
 use Rattle.deeds.specs.declared.Told.{Told}
 use Rattle.record.specs.Deeds.{telling}

@@ -21,14 +21,17 @@ use Rattle.phases.specs.declared.answer.Answer.the-variants.{Done, NoSuch, NotA
 use Rattle.record.specs.declared.steps.Step.{Step}
 use Rattle.deeds.specs.declared.Told.{Told}
 use Rattle.phases.specs.Answers.{answerNo}
-use Rattle.asked.specs.Asked.{lengthTold, wayNo, grantTold, grantNo, placeTold, placeNo}
+use Rattle.asked_place.specs.{placeTold, placeNo}
+use Rattle.asked_grant.specs.{grantTold, grantNo}
+use Rattle.asked_way.specs.{lengthTold, wayNo}
 use Rattle.phases.specs.Phase.{green, denied, red}
 use Rattle.record.specs.Doors.{recordOf, freshRecord, Shaped}
 use Rattle.granting.specs.Grants.{GrantAt, grantOf}
 use Rattle.granting.specs.Reasons.{firstReason}
 use Rattle.soundness.specs.SoundTest.{listsSound}
 use Rattle.phases.specs.Kinds.{StepRow, kindOf, allows, namesPerson}
-use Rattle.record.specs.Sound.{ZeroBeyond, Sound}
+use Rattle.tables.specs.Zero.{ZeroBeyond}
+use Rattle.record.specs.Sound.{Sound}
 use Rattle.record.specs.SoundTest.{soundB}
 use Rattle.record.specs.Steps.{First, stepOf}
 use Rattle.record.specs.Deeds.{telling}

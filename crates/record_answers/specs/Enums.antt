@@ -8,10 +8,12 @@ use Rattle.told.specs.Told.{wayToldNo, wayToldLength}
 use Rattle.told.specs.declared.Found.{Found}
 use Rattle.told.specs.declared.Found.the-variants.{Nothing}
 use Rattle.told.specs.declared.WayTold.{WayTold}
-use Rattle.asked.specs.declared.PlaceAnswer.{PlaceAnswer}
-use Rattle.asked.specs.declared.GrantAnswer.{GrantAnswer}
-use Rattle.asked.specs.declared.WayAnswer.{WayAnswer}
-use Rattle.asked.specs.Asked.{lengthTold, wayNo, grantTold, grantNo, placeTold, placeNo}
+use Rattle.asked_place.specs.declared.PlaceAnswer.{PlaceAnswer}
+use Rattle.asked_grant.specs.declared.GrantAnswer.{GrantAnswer}
+use Rattle.asked_way.specs.declared.WayAnswer.{WayAnswer}
+use Rattle.asked_place.specs.{placeTold, placeNo}
+use Rattle.asked_grant.specs.{grantTold, grantNo}
+use Rattle.asked_way.specs.{lengthTold, wayNo}
 use Rattle.numbers.specs.Telling.{OneOf, Unique}
 
 pub record EnumAnswers : Type 0 where

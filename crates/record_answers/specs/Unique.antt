@@ -16,10 +16,12 @@ use Rattle.phases.specs.declared.table.Kind.the-variants.{Card, Decide, Green, 
 use Rattle.record.specs.declared.steps.Step.{Step}
 use Rattle.deeds.specs.declared.Told.{Told}
 use Rattle.record.specs.declared.series.Ran.{Ran}
-use Rattle.asked.specs.declared.PlaceAnswer.{PlaceAnswer}
-use Rattle.asked.specs.declared.GrantAnswer.{GrantAnswer}
-use Rattle.asked.specs.declared.WayAnswer.{WayAnswer}
-use Rattle.asked.specs.Asked.{lengthTold, wayNo, grantTold, grantNo, placeTold, placeNo}
+use Rattle.asked_place.specs.declared.PlaceAnswer.{PlaceAnswer}
+use Rattle.asked_grant.specs.declared.GrantAnswer.{GrantAnswer}
+use Rattle.asked_way.specs.declared.WayAnswer.{WayAnswer}
+use Rattle.asked_place.specs.{placeTold, placeNo}
+use Rattle.asked_grant.specs.{grantTold, grantNo}
+use Rattle.asked_way.specs.{lengthTold, wayNo}
 use Rattle.granting.specs.Grants.{grantOf}
 use Rattle.granting.specs.Reasons.{firstReason}
 use Rattle.soundness.specs.SoundTest.{listsSound}

@@ -2,9 +2,9 @@
 use cells::say::number_of;
 use grammar::cut::Cell;
 use grammar::cut::Cells;
-use grammar::say::Number;
 use libc::STDOUT_FILENO;
 use lists::byte_at;
+use saying::Number;
 
 // The number that a field says, 0 for none.
 pub fn number_or_0(s: &[u8], cell: Cell) -> usize {

@@ -15,13 +15,13 @@ ghost use Rattle.run_text.specs.Printed.{answerRows, repliesFrom, runText, alon
 ghost use Rattle.run_text.specs.Printed.{placesText, recordText, lastRecord, whereText};
 use crate::blank::blank_bytes;
 use crate::serve::serve;
+use number_rows::put_row;
 use numbers::Paper;
 use record::record::Record;
 use site::read_site;
 use steps::heading_of;
 use steps_sheet::Heading;
 use text::write::put_bytes;
-use text::write::put_row;
 use told::Printed;
 
 // A byte as a number of the text.

@@ -10,8 +10,8 @@ use lib.Dec.{eqb, ltb}
 use Rattle.tables.specs.Tables.{andAlso}
 use Rattle.tables.proofs.Cases.{either, one-of}
 use Rattle.door.specs.declared.Door.{Door}
-use Rattle.door.specs.declared.does.Does.{Does}
-use Rattle.door.specs.Does.{effect}
+use Rattle.door_does.specs.declared.Does.{Does}
+use Rattle.door_does.specs.Does.{effect}
 use Rattle.phases.specs.declared.table.Kind.{Kind}
 use Rattle.phases.specs.declared.table.Kind.the-variants.{Card, Decide, Green, Red, Walk, Tick, Passed, Lapsed, Dark, Ack, Unknown}
 use Rattle.phases.specs.Phase.{read, granted, green, walked, expired, denied, red, dimmed, grants}

@@ -8,8 +8,8 @@ use borrow.Author.Tests.{eq-eqb, ne-eqb}
 use lib.ListN.{getD}
 use lib.Dec.{eqb}
 use Rattle.tables.proofs.Cases.{same-or-not}
-use Rattle.door.specs.declared.does.Does.{Does}
-use Rattle.door.specs.declared.does.Does.the-variants.{Stays, Turns, Moves}
+use Rattle.door_does.specs.declared.Does.{Does}
+use Rattle.door_does.specs.declared.Does.the-variants.{Stays, Turns, Moves}
 use Rattle.phases.specs.declared.table.Kind.{Kind}
 use Rattle.phases.specs.declared.answer.Answer.{Answer}
 use Rattle.phases.specs.declared.answer.Answer.the-variants.{Done, NoSuch, NotAllowed, TooShort, Unsound}

@@ -16,24 +16,26 @@ use Rattle.record.specs.declared.steps.Step.{Step}
 use Rattle.phases.specs.declared.table.Kind.{Kind}
 use Rattle.phases.specs.declared.table.Kind.the-variants.{Card, Decide, Green, Red, Walk, Passed}
 use Rattle.phases.specs.Phase.{grants}
-use Rattle.record.specs.Doors.{Shaped, zeros, freshRecord}
+use Rattle.record.specs.Doors.{Shaped, freshRecord}
+use Rattle.tables.specs.Zero.{zeros}
 use Rattle.phases.specs.Kinds.{StepRow, kindOf, allows}
 use Rattle.granting.specs.Grants.{grantsTo, grantOf, hasGrant}
 use Rattle.record.specs.Sound.{Sound}
-use Rattle.door.specs.Does.{effect}
+use Rattle.door_does.specs.Does.{effect}
 use Rattle.granting.specs.Reasons.{firstReason}
 use Rattle.record.specs.Steps.{act, exist, soundStep}
 use Rattle.record.specs.Run.{Reply, replyBy, rowOf, lastOf, repliesOf}
 use Rattle.record.proofs.Laws.{sound-steps, sound-stays, shaped-stays}
 use Rattle.grammar.specs.Cut.{bareMove, shutMove, moveOf, endOf, fieldFrom, pushed, rowFrom, cutRow}
 use Rattle.grammar.specs.Rows.{readRows, rowsFrom}
-use Rattle.grammar.specs.Say.{valueFrom, digitsFrom, needlessZero, numberIn, contentAt, sameBytes, isWord, placeIn, placeAmong, namedFrom, saysWords, numberAt}
+use Rattle.saying.specs.Say.{valueFrom, digitsFrom, needlessZero, numberIn, contentAt, sameBytes, isWord, placeIn, placeAmong, namedFrom, saysWords, numberAt}
 use Rattle.site_sheet.specs.declared.SiteRead.{SiteRead}
 use Rattle.site_sheet.specs.Accepted.{AcceptedRecord}
 use Rattle.verdict.specs.declared.Verdict.the-variants.{Accepted, NoSite}
-use Rattle.site_sheet.specs.Draft.{unmarked, siteRowFits, takeSite, doorRowFits, takeDoor, exitRowFits, takeExit, rightRowFits, takeRight, takeLine}
-use Rattle.site_sheet.specs.Line as site
-use Rattle.site_sheet.specs.Site.{linesIn, readLines, judged, settled, afterHeader, siteAt, siteOf, refusedSite}
+use Rattle.site_lines.specs.Draft.{unmarked, siteRowFits, takeSite, doorRowFits, takeDoor, exitRowFits, takeExit, rightRowFits, takeRight, takeLine}
+use Rattle.site_lines.specs.Line as site
+use Rattle.site_lines.specs.Taking.{linesIn, readLines}
+use Rattle.site_sheet.specs.Site.{judged, settled, afterHeader, siteAt, siteOf, refusedSite}
 use Rattle.grammar.specs.Sizes.{limit}
 use Rattle.site_sheet.proofs.Theorems.{accepted-holds}
 use Rattle.steps_sheet.specs.declared.Heading.{Heading}

@@ -3,7 +3,7 @@
 use Prim.Native.Nat.{ℕ, _+_}
 use mathlib.Core.Path.{_≡_}
 use mathlib.Core.List.{List, [], _∷_, _++_}
-use Rattle.site_sheet.specs.Line.{siteWord, doorWord, exitWord, rightWord, kindHead, aHead, bHead}
+use Rattle.site_lines.specs.Line.{siteWord, doorWord, exitWord, rightWord, kindHead, aHead, bHead}
 use Rattle.steps_sheet.specs.Words.{cardWord, decideWord, greenWord, redWord, walkWord, passedWord, stepHead, personHead}
 use Rattle.run_text.specs.Printed.{panelText, whereText}
 

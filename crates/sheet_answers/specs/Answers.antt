@@ -17,11 +17,11 @@ use Rattle.grammar.specs.declared.cut.RowCut.{RowCut}
 use Rattle.grammar.specs.declared.cut.RowCut.the-variants.{Cut, NoRow, Broken}
 use Rattle.grammar.specs.declared.count.RowsCounted.{RowsCounted}
 use Rattle.grammar.specs.declared.count.RowsCounted.the-variants.{All, UpTo}
-use Rattle.grammar.specs.declared.say.Number.the-variants.{Is}
+use Rattle.saying.specs.declared.Number.the-variants.{Is}
 use Rattle.grammar.specs.Cut.{cutField, cutRow}
 use Rattle.grammar.specs.Rows.{countRows}
 use Rattle.reader.specs.Reader.{readerAt}
-use Rattle.grammar.specs.Say.{ProperNumber, contentAt, isWord, saysWords, numberAt}
+use Rattle.saying.specs.Say.{ProperNumber, contentAt, isWord, saysWords, numberAt}
 use Rattle.told.specs.declared.Printed.{Printed}
 use Rattle.told.specs.declared.Printed.the-variants.{Text}
 use Rattle.text.specs.Text.{decimal, rowOfNumbers}

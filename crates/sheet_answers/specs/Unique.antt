@@ -11,11 +11,11 @@ use Rattle.grammar.specs.declared.cut.Cells.{Cells}
 use Rattle.grammar.specs.declared.cut.FieldCut.{FieldCut}
 use Rattle.grammar.specs.declared.cut.RowCut.{RowCut}
 use Rattle.grammar.specs.declared.count.RowsCounted.{RowsCounted}
-use Rattle.grammar.specs.declared.say.Number.{Number}
+use Rattle.saying.specs.declared.Number.{Number}
 use Rattle.grammar.specs.Cut.{cutField, cutRow}
 use Rattle.grammar.specs.Rows.{countRows}
 use Rattle.reader.specs.Reader.{readerAt}
-use Rattle.grammar.specs.Say.{isWord, saysWords, numberAt}
+use Rattle.saying.specs.Say.{isWord, saysWords, numberAt}
 use Rattle.told.specs.declared.Printed.{Printed}
 use Rattle.text.specs.Text.{decimal, rowOfNumbers}
 use Rattle.text.specs.Wrote.{Wrote}

@@ -1,9 +1,9 @@
 // A site sheet becomes a fresh record, or a refusal with its place.
 //
 // Crate `site_tables` takes the rows; here the whole sheet is answered: its length, its header, and the rules over its tables. The
-// definitions, and the theorems of them, are those of crate `site_sheet`.
+// definitions, and the theorems of them, are those of crates `site_lines` and `site_sheet`.
 ghost use mathlib.Core.Path.{_≡_};
-ghost use Rattle.site_sheet.specs.Line.{siteHeaderAt};
+ghost use Rattle.site_lines.specs.Line.{siteHeaderAt};
 ghost use Rattle.site_sheet.specs.Site.{acceptedSite, refusedSite, judgedBy10, judgedFrom8, judged, settled, siteOf};
 use cells::say::says_words;
 use grammar::cut::Cells;
@@ -11,9 +11,9 @@ use grammar::cut::RowCut;
 use reader::row_at;
 use record::record::Record;
 use sheet::LIMIT;
-use site_sheet::Draft;
-use site_sheet::Fault;
-use site_sheet::Reading;
+use site_lines::Draft;
+use site_lines::Fault;
+use site_lines::Reading;
 use site_sheet::SiteRead;
 use site_tables::read_rows;
 use tables::MOST_DOORS;

@@ -1,14 +1,14 @@
 // What a row of a site sheet says: a line of the site, or that it is of bad form. The definitions, and the theorems of them, are
-// those of crate `site_sheet`.
+// those of crate `site_lines`.
 ghost use mathlib.Core.Path.{_≡_};
-ghost use Rattle.site_sheet.specs.Line.{wordOf, siteLineAt};
+ghost use Rattle.site_lines.specs.Line.{wordOf, siteLineAt};
 use cells::say::is_word;
 use cells::say::number_of;
 use grammar::cut::Cell;
 use grammar::cut::Cells;
-use grammar::say::Number;
-use site_sheet::SiteLine;
-use site_sheet::Word;
+use saying::Number;
+use site_lines::SiteLine;
+use site_lines::Word;
 
 // The word that a field is.
 fn word_of(s: &[u8], cell: Cell) -> Word

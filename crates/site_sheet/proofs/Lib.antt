@@ -1,26 +1,8 @@
--- The laws of a site sheet, and its theorems, which `Theorems` has by name.
---     Fits       the tests of a row as facts
---     Bounds     a row that is taken leaves the counts in their ranges
---     Loop       the loop over the rows
---     Said       what lines say with one more behind them
---     Held       the tables hold what the lines say
---     Obeyed     the rules said of the lines are those of the tables that hold them
---     Outcome    what is wrong with a line, or nothing
---     Rows       which line a row is
---     Text       which lines a text says
---     Verdicts   what is said of a sheet is what the rules give
+-- The theorems of a site sheet, which `Theorems` has by name.
+--     GivenBack  what is said of a sheet is what the rules give
 --     Only       what the rules give is what is said
 --     Same       the same rows have the same answer
-pub mod Fits
-pub mod Bounds
-pub mod Loop
-pub mod Said
-pub mod Held
-pub mod Obeyed
-pub mod Outcome
-pub mod Rows
-pub mod Text
-pub mod Verdicts
+pub mod GivenBack
 pub mod Only
 pub mod Same
 pub mod Theorems

@@ -20,24 +20,25 @@ use Rattle.grammar.specs.Rows.{rowsFrom}
 use Rattle.grammar.specs.Grammar.{Row, RowAt}
 use Rattle.grammar.proofs.Unique.{row-unique}
 use Rattle.grammar.proofs.Exact.{row-is-cut, cut-is-row}
-use Rattle.site_sheet.specs.declared.SiteLine.{SiteLine}
-use Rattle.site_sheet.specs.declared.SiteLine.the-variants.{Site, Door, Exit, Right, Bad}
-use Rattle.site_sheet.specs.declared.Draft.{Draft}
-use Rattle.site_sheet.specs.declared.Fault.{Fault}
+use Rattle.site_lines.specs.declared.SiteLine.{SiteLine}
+use Rattle.site_lines.specs.declared.SiteLine.the-variants.{Site, Door, Exit, Right, Bad}
+use Rattle.site_lines.specs.declared.Draft.{Draft}
+use Rattle.site_lines.specs.declared.Fault.{Fault}
 use Rattle.verdict.specs.declared.Verdict.{Verdict}
 use Rattle.verdict.specs.declared.Verdict.the-variants.{Accepted, BadRow, NoExit, Stray, NoDoor, NoRight, ShutOut}
 use Rattle.site_sheet.specs.declared.SiteRead.{SiteRead}
-use Rattle.site_sheet.specs.Line.{siteHeaderAt}
-use Rattle.site_sheet.specs.Draft.{blankDraft, planIn}
-use Rattle.site_sheet.specs.Site.{verdictOf, linesIn, readLines, acceptedSite, judged, settled, afterHeader, siteAt}
-use Rattle.site_sheet.specs.Says.{peopleIn, locationsIn, SiteHeaderRow, LineInRange, site-range, door-range, exit-range, right-range, NotFirst, door-first, exit-first, right-first, Fine, Wrong, of-form, no-site, out-of-range, said-again}
-use Rattle.site_sheet.specs.Gives.{Headed, FineLines, one-fine, WrongAt, here, further, RowsFine, ExitOf, ComesOut, ExitHasDoor, RightToExit, ComesIn, Six, Seven, Eight, Nine, Ten, Obeys, Gives, gives-0, gives-1, gives-header, gives-row, gives-5, gives-6, gives-7, gives-8, gives-9, gives-10}
-use Rattle.site_sheet.proofs.Held.{Held, held-blank}
-use Rattle.site_sheet.proofs.Obeyed.{Ruled, rules-of}
-use Rattle.site_sheet.proofs.Outcome.{fine}
-use Rattle.site_sheet.proofs.Rows.{headerFrom, header-same, header-is, is-header-row}
-use Rattle.site_sheet.proofs.Text.{text-says, text-unique}
-use Rattle.site_sheet.proofs.Verdicts.{ReadOf, all, stopped, read-of}
+use Rattle.site_lines.specs.Line.{siteHeaderAt}
+use Rattle.site_lines.specs.Draft.{blankDraft, planIn}
+use Rattle.site_lines.specs.Taking.{verdictOf, linesIn, readLines}
+use Rattle.site_sheet.specs.Site.{acceptedSite, judged, settled, afterHeader, siteAt}
+use Rattle.site_lines.specs.Says.{peopleIn, locationsIn, SiteHeaderRow, LineInRange, site-range, door-range, exit-range, right-range, NotFirst, door-first, exit-first, right-first, Fine, Wrong, of-form, no-site, out-of-range, said-again}
+use Rattle.site_lines.specs.Gives.{Headed, FineLines, one-fine, WrongAt, here, further, RowsFine, ExitOf, ComesOut, ExitHasDoor, RightToExit, ComesIn, Six, Seven, Eight, Nine, Ten, Obeys, Gives, gives-0, gives-1, gives-header, gives-row, gives-5, gives-6, gives-7, gives-8, gives-9, gives-10}
+use Rattle.site_lines.proofs.Held.{Held, held-blank}
+use Rattle.site_lines.proofs.Obeyed.{Ruled, rules-of}
+use Rattle.site_lines.proofs.Outcome.{fine}
+use Rattle.site_lines.proofs.Rows.{headerFrom, header-same, header-is, is-header-row}
+use Rattle.site_lines.proofs.Text.{text-says, text-unique}
+use Rattle.site_lines.proofs.Outcomes.{ReadOf, all, stopped, read-of}
 
 -- ---- one thing is wrong with a line, or nothing
 

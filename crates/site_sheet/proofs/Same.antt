@@ -13,10 +13,10 @@ use Rattle.grammar.specs.Grammar.{Row, RowAt, bare, content, fields, Sheet, no-
 use Rattle.grammar.proofs.Unique.{row-unique}
 use Rattle.grammar.proofs.Exact.{row-is-cut, cut-is-row}
 use Rattle.verdict.specs.declared.Verdict.the-variants.{BadRow}
-use Rattle.site_sheet.specs.Line.{siteHeaderAt}
+use Rattle.site_lines.specs.Line.{siteHeaderAt}
 use Rattle.site_sheet.specs.Site.{refusedSite, afterHeader, siteAt}
-use Rattle.site_sheet.specs.Says.{contents, TextSaysLines, nothing, a-row}
-use Rattle.site_sheet.proofs.Rows.{lineFrom, headerFrom, header-same, header-is, says-from}
+use Rattle.site_lines.specs.Says.{contents, TextSaysLines, nothing, a-row}
+use Rattle.site_lines.proofs.Rows.{lineFrom, headerFrom, header-same, header-is, says-from}
 use Rattle.site_sheet.proofs.Only.{headed-reads}
 
 map-length : {A B : Type 0} (f : A → B) (l : List A) → length (map f l) ≡ length l

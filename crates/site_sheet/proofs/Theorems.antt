@@ -1,53 +1,30 @@
 -- The theorems of a site sheet: what is said of it, and what the record of an accepted one holds.
 -- Assumes nothing.
 use Prim.Native.Nat.{ℕ, _≤_}
-use mathlib.Core.Path.{_≡_, refl, sym, ap, subst, _∙_}
+use mathlib.Core.Path.{_≡_, sym, ap, subst, _∙_}
 use native.Mathlib.Omega.{arith}
 use mathlib.Core.Logic.{_↔_}
-use mathlib.Core.List.{List, [], map}
-use lib.ListN.{length, drop}
+use mathlib.Core.List.{List, map}
+use lib.ListN.{length}
 use Rattle.tables.specs.Tables.{mostPeople}
 use Rattle.tables.specs.Rules.{Lawful}
 use Rattle.record.specs.Sound.{Sound}
 use Rattle.record.specs.Doors.{Shaped}
 use Rattle.record.specs.declared.record.Record.{Record}
-use Rattle.record.proofs.Fresh.{zeros-long, fresh-sound, fresh-shaped}
+use Rattle.tables.proofs.Zero.{zeros-long}
+use Rattle.record.proofs.Fresh.{fresh-sound, fresh-shaped}
 use Rattle.verdict.specs.declared.Verdict.{Verdict}
 use Rattle.verdict.specs.declared.Verdict.the-variants.{Accepted}
-use Rattle.grammar.specs.declared.cut.Cells.{Cells}
 use Rattle.grammar.specs.Grammar.{Row, Sheet}
-use Rattle.grammar.specs.Where.{RowHolds}
-use Rattle.grammar.specs.Rows.{rowsFrom}
-use Rattle.site_sheet.specs.declared.SiteLine.{SiteLine}
-use Rattle.site_sheet.specs.declared.Reading.{Reading}
-use Rattle.site_sheet.specs.Line.{siteLineAt}
-use Rattle.site_sheet.specs.Draft.{blankDraft, planIn}
-use Rattle.site_sheet.specs.Site.{linesIn, readLines, siteAt}
-use Rattle.site_sheet.specs.Says.{contents, SaysSo, TextSaysLines}
-use Rattle.site_sheet.specs.Gives.{RowsTold, all-taken, one-wrong, Obeys, Gives, gives-0}
+use Rattle.site_lines.specs.Draft.{planIn}
+use Rattle.site_sheet.specs.Site.{siteAt}
+use Rattle.site_lines.specs.Says.{contents}
+use Rattle.site_lines.specs.Gives.{Obeys, Gives, gives-0}
 use Rattle.site_sheet.specs.Accepted.{AcceptedRecord}
-use Rattle.site_sheet.proofs.Held.{held-blank}
-use Rattle.site_sheet.proofs.Rows.{line-same, says-from, from-says}
-use Rattle.site_sheet.proofs.Text.{text-says, text-unique}
-use Rattle.site_sheet.proofs.Verdicts.{ReadOf, all, stopped, read-of, site-gives}
+use Rattle.site_sheet.proofs.GivenBack.{site-gives}
 use Rattle.site_sheet.proofs.Same.{same-answer}
 use Rattle.site_sheet.proofs.Only.{gives-site, accepted-obeys, accepted-record, tablesOf, fine-held}
-use Rattle.site_sheet.proofs.Obeyed.{lawful-as}
-
--- The cells of a row are read as a line exactly when the row says it.
-pub line-exactly : (s : List ℕ) (cells : Cells) (r : Row) → RowHolds s cells r → (line : SiteLine) → (siteLineAt s cells ≡ line) ↔ SaysSo r line
-line-exactly s cells r h line = (
-  (λ e. subst (SaysSo r) (sym (line-same s r h) ∙ e) (says-from r)),
-  (λ x. line-same s r h ∙ from-says r x),
-)
-
--- Rows that say these lines are taken into tables that hold what they say, or the first with which something is wrong is told.
-pub rows-taken : (s : List ℕ) (from : ℕ) (lines : List SiteLine) → TextSaysLines (drop from s) lines → RowsTold lines (readLines blankDraft 1 (linesIn s (rowsFrom s from)))
-rows-taken s from lines says = rw (text-unique (text-says s from) says refl) (told (read-of lines [] 1 blankDraft held-blank))
-  where
-    told : {r : Reading} → ReadOf [] lines 1 blankDraft r → RowsTold lines r
-    told (all a f h) = all-taken a f (h .holds)
-    told (stopped k f w e n q) = one-wrong k f w e (n ∙ omega arith)
+use Rattle.site_lines.proofs.Obeyed.{lawful-as}
 
 -- Each number is given, with its place, exactly when its line of the table says so.
 pub given-exactly : (most : ℕ) (s : List ℕ) (v : Verdict) → (siteAt most s .verdict ≡ v) ↔ Gives most s v

@@ -6,12 +6,12 @@ use mathlib.Core.List.{List}
 use Prim.Native.Nat.{ℕ}
 use Rattle.record.specs.Sound.{Sound}
 use Rattle.record.specs.Doors.{Shaped, freshRecord}
-use Rattle.site_sheet.specs.declared.SiteLine.{SiteLine}
-use Rattle.site_sheet.specs.declared.Draft.{Draft}
-use Rattle.site_sheet.specs.Draft.{planIn}
+use Rattle.site_lines.specs.declared.SiteLine.{SiteLine}
+use Rattle.site_lines.specs.declared.Draft.{Draft}
+use Rattle.site_lines.specs.Draft.{planIn}
 use Rattle.site_sheet.specs.Site.{siteAt}
-use Rattle.site_sheet.specs.Says.{Holds}
-use Rattle.site_sheet.specs.Gives.{Headed}
+use Rattle.site_lines.specs.Says.{Holds}
+use Rattle.site_lines.specs.Gives.{Headed}
 
 pub record AcceptedRecord (most : ℕ) (s : List ℕ) : Type 0 where
   -- the lines that the sheet's rows say

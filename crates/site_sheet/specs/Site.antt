@@ -1,7 +1,7 @@
 -- The whole site sheet: what is answered to it. 01, "Site sheet", "Numbers given back" and "The record".
-use Prim.Native.Nat.{ℕ, _+_}
-use mathlib.Core.Bool.{Bool, true, false, cond}
-use mathlib.Core.List.{List, [], _∷_}
+use Prim.Native.Nat.{ℕ}
+use mathlib.Core.Bool.{cond}
+use mathlib.Core.List.{List}
 use lib.ListN.{length}
 use lib.Dec.{ltb, eqb}
 use Rattle.told.specs.declared.Found.{Found}
@@ -15,52 +15,17 @@ use Rattle.grammar.specs.declared.cut.RowCut.{RowCut}
 use Rattle.grammar.specs.declared.cut.RowCut.the-variants.{Cut, NoRow, Broken}
 use Rattle.grammar.specs.Sizes.{limit}
 use Rattle.grammar.specs.Cut.{cutRow}
-use Rattle.grammar.specs.Rows.{Rows, no-more, broken, row, rowsFrom}
-use Rattle.site_sheet.specs.declared.SiteLine.{SiteLine}
-use Rattle.site_sheet.specs.declared.SiteLine.the-variants.{Bad}
-use Rattle.site_sheet.specs.declared.Draft.{Draft}
-use Rattle.site_sheet.specs.declared.Fault.{Fault}
-use Rattle.site_sheet.specs.declared.Fault.the-variants as fault
+use Rattle.grammar.specs.Rows.{rowsFrom}
+use Rattle.site_lines.specs.declared.Draft.{Draft}
 use Rattle.verdict.specs.declared.Verdict.{Verdict}
-use Rattle.verdict.specs.declared.Verdict.the-variants.{Accepted, TooLong, BadRow, OutOfRange, Twice, NoSite, NoExit, Stray, NoDoor, NoRight, ShutOut}
+use Rattle.verdict.specs.declared.Verdict.the-variants.{Accepted, TooLong, BadRow, NoSite, NoExit, Stray, NoDoor, NoRight, ShutOut}
 use Rattle.site_sheet.specs.declared.SiteRead.{SiteRead}
-use Rattle.site_sheet.specs.declared.Reading.{Reading}
-use Rattle.site_sheet.specs.Line.{siteLineAt, siteHeaderAt}
-use Rattle.site_sheet.specs.Draft.{Taken, blankDraft, planIn, takeLine}
+use Rattle.site_lines.specs.declared.Reading.{Reading}
+use Rattle.site_lines.specs.Line.{siteHeaderAt}
+use Rattle.site_lines.specs.Draft.{blankDraft, planIn}
+use Rattle.site_lines.specs.Taking.{soundFault, verdictOf, linesIn, readLines}
 -- the number and the places of a verdict, passed on to whoever reads of the whole sheet
 pub use Rattle.verdict.specs.Numbers.{verdictNo, firstPlace, secondPlace}
-
--- nothing is wrong with a row
-abbrev pub soundFault : Fault → Bool
-soundFault fault.Sound = true
-soundFault fault.Form = false
-soundFault fault.NoSite = false
-soundFault fault.Range = false
-soundFault fault.Twice = false
-
-abbrev pub verdictOf : Fault → ℕ → Verdict
-verdictOf fault.Sound n = Accepted
-verdictOf fault.Form n = BadRow n
-verdictOf fault.NoSite n = NoSite
-verdictOf fault.Range n = OutOfRange n
-verdictOf fault.Twice n = Twice n
-
--- what the rows of a sheet say, one after the other; a row that can't be cut is of bad form, and the last that is read
-unfoldable pub linesIn : List ℕ → Rows → List SiteLine
-linesIn s no-more = []
-linesIn s (broken byte) = Bad ∷ []
-linesIn s (row cells rows) = siteLineAt s cells ∷ linesIn s rows
-
-abbrev pub reading : Draft → Fault → ℕ → Reading
-reading d f n = record { draft = d; fault = f; row = n }
-
--- "rows from the top", up to the first with which something is wrong
-abbrev pub onTaken : Taken → ℕ → Reading → Reading
-onTaken t n more = cond (soundFault (t .fault)) more (reading (t .draft) (t .fault) n)
-
-unfoldable pub readLines : Draft → ℕ → List SiteLine → Reading
-readLines d n [] = reading d fault.Sound n
-readLines d n (line ∷ lines) = onTaken (takeLine d line) n (readLines (takeLine d line .draft) (n + 1) lines)
 
 -- "A refused site sheet gives no new record.": the blank record has no people, so that it isn't sound
 abbrev pub blankRecord : Record

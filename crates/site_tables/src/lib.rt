@@ -1,21 +1,21 @@
 // The rows of a site sheet become tables: they are taken one by one, from the top, up to the first with which something is wrong.
 //
 // Crate `site_row` has what a row says, `row` how it goes into the tables. The definitions, and the theorems of them, are those of
-// crate `site_sheet`.
+// crate `site_lines`.
 ghost use mathlib.Core.Path.{_≡_};
 ghost use Rattle.grammar.specs.Rows.{rowsFrom};
-ghost use Rattle.site_sheet.specs.Draft.{blankDraft};
-ghost use Rattle.site_sheet.specs.Lent.{noCounts, draftWith, stop, stoppedAt};
-ghost use Rattle.site_sheet.specs.Site.{soundFault, linesIn, readLines};
+ghost use Rattle.site_lines.specs.Draft.{blankDraft};
+ghost use Rattle.site_lines.specs.Lent.{noCounts, draftWith, stop, stoppedAt};
+ghost use Rattle.site_lines.specs.Taking.{soundFault, linesIn, readLines};
 use crate::row::take;
 use grammar::cut::RowCut;
 use reader::row_at;
+use site_lines::Counts;
+use site_lines::Draft;
+use site_lines::Fault;
+use site_lines::Reading;
+use site_lines::Stop;
 use site_row::line_of;
-use site_sheet::Counts;
-use site_sheet::Draft;
-use site_sheet::Fault;
-use site_sheet::Reading;
-use site_sheet::Stop;
 use tables::MOST_DOORS;
 use tables::MOST_LOCATIONS;
 use tables::MOST_RIGHTS;

@@ -9,7 +9,7 @@ use Rattle.tables.specs.Below.{allBelow}
 use Rattle.tables.specs.Tests.{lawfulB}
 use Rattle.phases.specs.Phase.{grants}
 use Rattle.door.specs.Door.{doorIn}
-use Rattle.door.specs.Fits.{fieldsFit, isFree}
+use Rattle.door_fits.specs.Fits.{fieldsFit, isFree}
 use Rattle.granting.specs.Grants.{hasGrant}
 
 -- the entries of a table from `count` on are 0

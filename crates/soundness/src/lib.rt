@@ -4,12 +4,13 @@ ghost use mathlib.Core.Path.{_≡_};
 ghost use mathlib.Core.List.{List};
 ghost use Prim.Native.Nat.{ℕ};
 ghost use Rattle.tables.specs.Tables.{plan};
-ghost use Rattle.door.specs.Fits.{isFree};
+ghost use Rattle.door_fits.specs.Fits.{isFree};
 ghost use Rattle.soundness.specs.SoundTest.{zeroAt, zeroFrom, rightFits, rightsFit, placeFits, placesFit};
 ghost use Rattle.soundness.specs.SoundTest.{doorFits, doorsFit, grantFits, grantsFit, soleGrant, soleGrants};
 ghost use Rattle.soundness.specs.SoundTest.{zeroBeyond, doorsSound, listsSound};
 use door::Door;
-use door::phase::grants;
+use door_fits::fits;
+use door_fits::grants;
 use granting::grant_of;
 use lists::byte_at;
 use lists::word_at;
@@ -124,7 +125,7 @@ fn door_fits<'a>(
 {
     let so = Door::among(phase, holder, count, door);
     if door < doors {
-        return so.fits(people);
+        return fits(so, people);
     }
     is_free(so)
 }

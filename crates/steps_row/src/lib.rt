@@ -6,8 +6,8 @@ use cells::say::is_word;
 use cells::say::number_of;
 use grammar::cut::Cell;
 use grammar::cut::Cells;
-use grammar::say::Number;
 use phases::table::Kind;
+use saying::Number;
 use steps_sheet::StepsLine;
 
 // The step that a field names. Here and below a few words are tried at a time, in the paper's order, and the next function tries

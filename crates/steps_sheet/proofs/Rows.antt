@@ -11,15 +11,15 @@ use borrow.Author.Tests.{eq-eqb, eqb-true}
 use Rattle.tables.proofs.Laws.{clash}
 use Rattle.grammar.specs.declared.cut.Cell.{Cell}
 use Rattle.grammar.specs.declared.cut.Cells.{Cells}
-use Rattle.grammar.specs.declared.say.Number.{Number}
-use Rattle.grammar.specs.declared.say.Number.the-variants as number
+use Rattle.saying.specs.declared.Number.{Number}
+use Rattle.saying.specs.declared.Number.the-variants as number
 use Rattle.grammar.specs.Grammar.{Row, content, fields}
 use Rattle.grammar.specs.Where.{holdsQuote, fieldOf, RowHolds}
 use Rattle.grammar.specs.Sizes.{width}
-use Rattle.grammar.specs.Say.{sameBytes, isWord, numberIn, numberAt, placeIn}
-use Rattle.grammar.proofs.Saying.{same-true, proper-read, read-proper, number-small}
-use Rattle.grammar.proofs.Contents.{word-same, number-same}
-use Rattle.grammar.proofs.Naming.{NoQuotes, none, more, by-place, named-same}
+use Rattle.saying.specs.Say.{sameBytes, isWord, numberIn, numberAt, placeIn}
+use Rattle.saying.proofs.Saying.{same-true, proper-read, read-proper, number-small}
+use Rattle.saying.proofs.Contents.{word-same, number-same}
+use Rattle.saying.proofs.Naming.{NoQuotes, none, more, by-place, named-same}
 use Rattle.phases.specs.declared.table.Kind.{Kind}
 use Rattle.phases.specs.declared.table.Kind.the-variants.{Card, Decide, Green, Red, Walk, Tick, Passed, Lapsed, Dark, Ack, Unknown}
 use Rattle.phases.specs.Kinds.{StepRow, kindOf, namesPerson}

@@ -20,7 +20,7 @@ use Rattle.grammar.specs.Where.{holdsQuote, RowHolds}
 use Rattle.grammar.proofs.Reading.{cut-there, rows-next}
 use Rattle.grammar.proofs.Unique.{row-unique, no-row-at}
 use Rattle.grammar.proofs.Exact.{cut-is-row, rest-shorter, no-row-end, broken-some, broken-none}
-use Rattle.grammar.proofs.Contents.{words-exact}
+use Rattle.saying.proofs.Contents.{words-exact}
 use Rattle.phases.specs.Kinds.{StepRow}
 use Rattle.steps_sheet.specs.declared.StepsLine.{StepsLine}
 use Rattle.steps_sheet.specs.declared.StepsLine.the-variants.{Step, Bad}

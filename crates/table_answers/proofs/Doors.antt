@@ -18,16 +18,16 @@ use Rattle.phases.specs.declared.answer.Answer.{Answer}
 use Rattle.phases.specs.declared.answer.Answer.the-variants.{Done, NoSuch, NotAllowed, TooShort, Unsound}
 use Rattle.phases.specs.Phase.{read, granted, green, walked, expired, red, dimmed, closed, greenSpan, redSpan, keeps, grants, lit, leastCount, mostCount}
 use Rattle.door.specs.Door.{door, freeDoor, doorIn}
-use Rattle.door.specs.Fits.{fieldsFit}
-use Rattle.door.specs.declared.does.Does.the-variants.{Turns}
+use Rattle.door_fits.specs.Fits.{fieldsFit}
+use Rattle.door_does.specs.declared.Does.the-variants.{Turns}
 use Rattle.phases.specs.Answers.{answerNo}
 use Rattle.phases.specs.Kinds.{kindOf, numberOfKind}
-use Rattle.door.specs.Does.{burns, effect}
+use Rattle.door_does.specs.Does.{burns, effect}
 use Rattle.phases.proofs.Entries.{table-allows}
 use Rattle.phases.proofs.Steps.{kind-back}
 use Rattle.tables.proofs.Cases.{either}
 use Rattle.numbers.specs.Telling.{OneOf}
-use Rattle.door.proofs.Fields.{tell-fields}
+use Rattle.door_fits.proofs.Fields.{tell-fields}
 use Rattle.table_answers.specs.Answers.{IsReason, none, DoesTold, DoorFits, DoorAnswers}
 use Rattle.table_answers.proofs.Tables.{past-end}
 
@@ -115,6 +115,7 @@ of-door =
       kind-number = kind-back;
       allowed-in = table-allows;
       grants = λ phase. tell-and (tell-le granted phase) (tell-le phase expired);
+      new = λ phase holder count. (refl, refl, refl);
       among = far-free;
       free = (refl, refl, refl, free-fits);
       fits = fits-tells;

@@ -31,6 +31,7 @@ door-unique =
       kind-number = λ k. alone;
       allowed-in = λ k phase. alone;
       grants = λ phase. alone;
+      new = λ phase holder count. alone;
       among = λ phase holder count d. alone;
       free = alone;
       fits = λ people c. alone;

@@ -1,5 +1,5 @@
--- Demand 1 of lists, tables, phases and one door: each field is a public function of the crates `tables`, `rules`, `phases` and `door`, and
--- says what follows of the definition that its promise cites. A function that answers no number tells a fact, and tells it exactly.
+-- Demand 1 of lists, tables, phases and one door: each field is a public function of the crates `lists`, `rules`, `phases`, `door`, `door_fits`
+-- and `door_does`, and says what follows of the definition that its promise cites. A function that answers no number tells a fact, and tells it exactly.
 use Prim.Native.Nat.{ℕ, _-_, _≤_, _<_}
 use mathlib.Core.Path.{_≡_}
 use mathlib.Core.Bool.{Bool, true, false}
@@ -19,12 +19,12 @@ use Rattle.phases.specs.declared.table.Kind.the-variants.{Decide, Tick, Passed,
 use Rattle.phases.specs.declared.answer.Answer.{Answer}
 use Rattle.phases.specs.Answers.{answerNo, reasonNone, reasonAway, reasonBarred, reasonBusy}
 use Rattle.door.specs.declared.Door.{Door}
-use Rattle.door.specs.declared.does.Does.{Does}
-use Rattle.door.specs.declared.does.Does.the-variants.{Stays, Turns, Moves}
+use Rattle.door_does.specs.declared.Does.{Does}
+use Rattle.door_does.specs.declared.Does.the-variants.{Stays, Turns, Moves}
 use Rattle.phases.specs.Phase.{free, granted, green, expired, red, closed, keeps, grants, leastCount, mostCount}
 use Rattle.door.specs.Door.{door, freeDoor, doorIn}
-use Rattle.door.specs.Fits.{fieldsFit}
-use Rattle.door.specs.Does.{effect}
+use Rattle.door_fits.specs.Fits.{fieldsFit}
+use Rattle.door_does.specs.Does.{effect}
 use Rattle.phases.specs.Kinds.{kindOf, numberOfKind, allows}
 use Rattle.phases.specs.Table.{asked}
 use Rattle.numbers.specs.Telling.{OneOf}
@@ -70,7 +70,7 @@ pub record RulesAnswers : Type 0 where
   pub lawful : (most : ℕ) (site : Plan) (right : List Bool) → Tells (lawfulB most site right) (Lawful most site right)
   pub way-out : (locations : ℕ) (exit : List ℕ) (from : ℕ) (list : List ℕ) → WayTells (wayOf locations exit from) list
 
--- ---- crates `phases` and `door`
+-- ---- crates `phases`, `door`, `door_fits` and `door_does`
 
 -- "reason 1 (not at the origin), 2 (no right), 3 (grant elsewhere)", and 0 for none
 pub data IsReason : ℕ → Type 0 where
@@ -107,6 +107,8 @@ pub record DoorAnswers : Type 0 where
   pub allowed-in : (k : Kind) (phase : ℕ) → phase ≤ closed → asked k phase ≡ allows k phase
   -- "Phases 2 to 5 hold a grant"
   pub grants : (phase : ℕ) → Tells (grants phase) ((granted ≤ phase) × (phase ≤ expired))
+  -- a door has the phase, the person and the countdown that it is made with
+  pub new : (phase holder count : ℕ) → (door phase holder count .phase ≡ phase) × (door phase holder count .holder ≡ holder) × (door phase holder count .count ≡ count)
   -- beyond its lists a door is free
   pub among : (phase holder count : List ℕ) (d : ℕ) → length phase ≤ d → length holder ≤ d → length count ≤ d → doorIn phase holder count d ≡ freeDoor
   -- "0 free": person 0, countdown 0; and it fits, whatever the people

@@ -1,5 +1,5 @@
--- Answers of the functions of the crates `tables`, `rules`, `phases` and `door` are unique: whatever a promise allows, the answer and what
--- each lent list holds at exit, is one thing. The promise stands as in the function's `ensures`.
+-- Answers of the functions of the crates `lists`, `rules`, `phases`, `door`, `door_fits` and `door_does` are unique: whatever a promise allows, the
+-- answer and what each lent list holds at exit, is one thing. The promise stands as in the function's `ensures`.
 use Prim.Native.Nat.{ℕ}
 use mathlib.Core.Path.{_≡_}
 use mathlib.Core.Bool.{Bool}
@@ -15,11 +15,11 @@ use Rattle.door.specs.declared.Door.{Door}
 use Rattle.phases.specs.declared.table.Kind.{Kind}
 use Rattle.phases.specs.declared.answer.Answer.{Answer}
 use Rattle.phases.specs.Answers.{answerNo}
-use Rattle.door.specs.declared.does.Does.{Does}
+use Rattle.door_does.specs.declared.Does.{Does}
 use Rattle.phases.specs.Phase.{grants}
-use Rattle.door.specs.Door.{freeDoor, doorIn}
-use Rattle.door.specs.Fits.{fieldsFit}
-use Rattle.door.specs.Does.{effect}
+use Rattle.door.specs.Door.{door, freeDoor, doorIn}
+use Rattle.door_fits.specs.Fits.{fieldsFit}
+use Rattle.door_does.specs.Does.{effect}
 use Rattle.phases.specs.Kinds.{kindOf, numberOfKind}
 use Rattle.phases.specs.Table.{asked}
 use Rattle.numbers.specs.Telling.{Unique}
@@ -54,6 +54,7 @@ pub record DoorUnique : Type 0 where
   pub kind-number : (k : Kind) → Unique (λ (x : ℕ). x ≡ numberOfKind k)
   pub allowed-in : (k : Kind) (phase : ℕ) → Unique (λ (x : Bool). x ≡ asked k phase)
   pub grants : (phase : ℕ) → Unique (λ (x : Bool). x ≡ grants phase)
+  pub new : (phase holder count : ℕ) → Unique (λ (x : Door). x ≡ door phase holder count)
   pub among : (phase holder count : List ℕ) (d : ℕ) → Unique (λ (x : Door). x ≡ doorIn phase holder count d)
   pub free : Unique (λ (x : Door). x ≡ freeDoor)
   pub fits : (people : ℕ) (c : Door) → Unique (λ (x : Bool). x ≡ fieldsFit people c)

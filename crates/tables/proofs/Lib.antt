@@ -1,4 +1,5 @@
--- The laws of `specs/Below.antt`, the loops' invariant, cases and chains of tests, and the theorems of the rules and of the way out.
+-- The laws of `specs/Below.antt`, the loops' invariant, cases and chains of tests, the theorems of the rules and of the way out,
+-- and lists of zeros.
 pub mod Laws
 pub mod Scans
 pub mod Chain
@@ -6,3 +7,4 @@ pub mod Cases
 pub mod Ways
 pub mod Answers
 pub mod WayOut
+pub mod Zero

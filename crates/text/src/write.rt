@@ -1,14 +1,8 @@
-// Bytes, numbers and rows as text. Each function writes at a place of a lent list and tells the place behind; what would lie past
+// Bytes and numbers as text. Each function writes at a place of a lent list and tells the place behind; what would lie past
 // the list's end is left out, so that a text is measured by writing it into a list of no bytes.
 ghost use mathlib.Core.List.{[], _∷_};
-ghost use Rattle.text.specs.Text.{decimal, rowOfNumbers};
+ghost use Rattle.text.specs.Text.{decimal};
 ghost use Rattle.text.specs.Wrote.{Wrote};
-
-const COMMA: u8 = 44;
-
-const CR: u8 = 13;
-
-const LF: u8 = 10;
 
 // No place lies behind this one.
 const LAST_PLACE: usize = 18446744073709551615;
@@ -49,22 +43,4 @@ pub fn put_number(out: &mut [u8], at: usize, n: usize) -> usize
     }
     let next = put_number(out, at, n / 10);
     put(out, next, b'0' + (n % 10) as u8)
-}
-
-// A row: a number, and those behind it.
-pub fn put_row<'a>(out: &'a mut [u8], at: usize, first: usize, more: &'a [usize]) -> usize
-    ensures { λ r. ⌜ Wrote (now (out .entry)) at (rowOfNumbers first (now (more .entry))) (now (out .exit)) r ⌝ }
-{
-    let mut next = at;
-    let mut n = first;
-    let mut i = 0;
-    while i < more.len() {
-        next = put_number(out, next, n);
-        next = put(out, next, COMMA);
-        n = more[i];
-        i += 1;
-    }
-    next = put_number(out, next, n);
-    next = put(out, next, CR);
-    put(out, next, LF)
 }

@@ -4,8 +4,8 @@
 // and `where`. Behind each text of a steps sheet of at most 1,024 bytes stands what a list gives that is one byte too short for
 // it (13, and no byte of the list is altered) and one that is just long enough (0, and the text). tests/make-vectors makes the
 // sheets, and from the papers' reference what is expected.
-use blank_lists::ROOM;
 use blank_lists::blank_panel_text;
+use blank_lists::blank_sheet;
 use libc::STDOUT_FILENO;
 use run::texts::panel_text;
 use run::texts::where_text;
@@ -136,8 +136,8 @@ fn is_there(name: &[u8]) -> bool {
 
 // What a pair of sheets is told; answers whether one of the two files is there.
 fn run_pair<'a>(site_name: &'a [u8], steps_name: &'a [u8]) -> bool {
-    let mut site = [0u8; ROOM];
-    let mut steps = [0u8; ROOM];
+    let mut site = blank_sheet();
+    let mut steps = blank_sheet();
     let in_site = read_sheet(site_name, &mut site);
     let in_steps = read_sheet(steps_name, &mut steps);
     write_verdict(&site[..in_site]);
@@ -146,22 +146,32 @@ fn run_pair<'a>(site_name: &'a [u8], steps_name: &'a [u8]) -> bool {
     is_there(site_name) || is_there(steps_name)
 }
 
+// The files of a case, by its number.
+fn site_of(n: usize) -> [u8; 13] {
+    let mut name = *b"NNNN-site.csv";
+    name[0] = digit(n / 1000);
+    name[1] = digit(n / 100);
+    name[2] = digit(n / 10);
+    name[3] = digit(n);
+    name
+}
+
+fn steps_of(n: usize) -> [u8; 14] {
+    let mut name = *b"NNNN-steps.csv";
+    name[0] = digit(n / 1000);
+    name[1] = digit(n / 100);
+    name[2] = digit(n / 10);
+    name[3] = digit(n);
+    name
+}
+
 fn run_case(n: usize) -> bool {
-    let number = [digit(n / 1000), digit(n / 100), digit(n / 10), digit(n)];
-    let mut site_name = *b"NNNN-site.csv";
-    site_name[0] = number[0];
-    site_name[1] = number[1];
-    site_name[2] = number[2];
-    site_name[3] = number[3];
-    let mut steps_name = *b"NNNN-steps.csv";
-    steps_name[0] = number[0];
-    steps_name[1] = number[1];
-    steps_name[2] = number[2];
-    steps_name[3] = number[3];
+    let site = site_of(n);
+    let steps = steps_of(n);
     io::write_all(STDOUT_FILENO, b"case ");
-    io::write_all(STDOUT_FILENO, &number);
+    io::write_all(STDOUT_FILENO, &site[0..4]);
     io::write_all(STDOUT_FILENO, b"\r\n");
-    run_pair(&site_name, &steps_name)
+    run_pair(&site, &steps)
 }
 
 fn main() {

@@ -1,6 +1,6 @@
 -- `place_of` meets its contract: the tests of `placeOf`, one after the other. Assumes nothing.
 use mathlib.Core.Path.{ap}
-use Rattle.asked.specs.declared.PlaceAnswer.the-variants.{At}
+use Rattle.asked_place.specs.declared.PlaceAnswer.the-variants.{At}
 use Rattle.record.specs.Questions.{placeOf}
 use Rattle.tables.proofs.Cases.{picks}
 use Rattle.record.proofs.Asked.{place-as-said}

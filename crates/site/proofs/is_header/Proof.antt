@@ -1,6 +1,6 @@
 -- `site::is_header` meets its contract.
 -- Assumes nothing.
-use Rattle.site_sheet.specs.Line.{siteHeaderAt}
+use Rattle.site_lines.specs.Line.{siteHeaderAt}
 use borrow.Author.Needs.{needs}
 use Rattle.site.proofs.is_header.Statement.{statement}
 use Rattle.site.proofs.is_header.Tie as tie

@@ -1,7 +1,7 @@
 -- `site::refused` meets its contract.
 -- Assumes nothing.
-use Rattle.site_sheet.specs.Draft.{unmarked}
-use Rattle.record.specs.Doors.{zeros}
+use Rattle.site_lines.specs.Draft.{unmarked}
+use Rattle.tables.specs.Zero.{zeros}
 use borrow.Author.Needs.{needs}
 use Rattle.site.proofs.refused.Statement.{statement}
 use Rattle.site.proofs.refused.Tie as tie

@@ -2,7 +2,7 @@
 -- Assumes nothing.
 use mathlib.Core.Path.{sym, _∙_}
 use borrow.Author.Tests.{eq-eqb, ne-eqb}
-use Rattle.site_sheet.specs.Line.{siteLineAt}
+use Rattle.site_lines.specs.Line.{siteLineAt}
 use borrow.Author.Needs.{needs}
 use Rattle.site_row.proofs.line_of.Statement.{statement}
 use Rattle.site_row.proofs.line_of.Tie as tie

@@ -1,7 +1,7 @@
 -- `site_tables::read_rows` meets its contract: the rows are taken into blank tables.
 -- Assumes nothing.
-use Rattle.record.specs.Doors.{zeros}
-use Rattle.site_sheet.specs.Draft.{unmarked}
+use Rattle.tables.specs.Zero.{zeros}
+use Rattle.site_lines.specs.Draft.{unmarked}
 use borrow.Author.Needs.{needs}
 use Rattle.site_tables.proofs.read_rows.Statement.{statement}
 use Rattle.site_tables.proofs.read_rows.Tie as tie

@@ -6,11 +6,11 @@ use native.Mathlib.Omega.{arith}
 use lib.ListN.{length}
 use borrow.Author.Tests.{not-true, not-false}
 use Rattle.grammar.proofs.Reading.{cut-there}
-use Rattle.site_sheet.specs.Draft.{takeLine}
-use Rattle.site_sheet.specs.Lent.{noCounts, draftWith}
-use Rattle.site_sheet.specs.Site.{linesIn, readLines}
-use Rattle.site_sheet.proofs.Bounds.{bounded-blank}
-use Rattle.site_sheet.proofs.Loop.{ReadSoFar, read-start, read-turn, read-stop, read-more}
+use Rattle.site_lines.specs.Draft.{takeLine}
+use Rattle.site_lines.specs.Lent.{noCounts, draftWith}
+use Rattle.site_lines.specs.Taking.{linesIn, readLines}
+use Rattle.site_lines.proofs.Bounds.{bounded-blank}
+use Rattle.site_lines.proofs.Loop.{ReadSoFar, read-start, read-turn, read-stop, read-more}
 use borrow.Author.Needs.{needs}
 use Rattle.site_tables.proofs.take_rows.Statement.{statement}
 use Rattle.site_tables.proofs.take_rows.Tie as tie

@@ -1,7 +1,7 @@
 -- `is_free` meets its contract: each return is decided by the tests before it. Assumes nothing.
 use borrow.Author.Tests.{eq-eqb, ne-eqb}
 use Rattle.tables.specs.Tables.{andAlso}
-use Rattle.door.specs.Fits.{isFree}
+use Rattle.door_fits.specs.Fits.{isFree}
 use Rattle.soundness.proofs.is_free.Statement.{statement}
 use Rattle.soundness.proofs.is_free.Tie as tie
 

@@ -4,7 +4,7 @@ use mathlib.Core.List.{[], _∷_}
 use native.Mathlib.Omega.{arith}
 use types.Run.{miss}
 use borrow.Author.Tests.{eq-eqb, ne-eqb}
-use Rattle.grammar.proofs.Saying.{number-small}
+use Rattle.saying.proofs.Saying.{number-small}
 use Rattle.steps_sheet.specs.Steps.{stepsLineAt}
 use Rattle.steps_sheet.proofs.Rows.{others-are-steps, person-small}
 use borrow.Author.Needs.{needs}

@@ -2,7 +2,7 @@
 -- Assumes nothing.
 use borrow.Author.Tests.{lt-ltb, le-ltb, eq-eqb, ne-eqb}
 use Rattle.tables.specs.Tables.{andAlso}
-use Rattle.site_sheet.specs.Draft.{doorRowFits}
+use Rattle.site_lines.specs.Draft.{doorRowFits}
 use Rattle.site_tables.proofs.row.door_fits.Statement.{statement}
 use Rattle.site_tables.proofs.row.door_fits.Tie as tie
 

@@ -2,7 +2,7 @@
 -- Assumes nothing.
 use borrow.Author.Tests.{le-leb, lt-leb, lt-ltb, le-ltb}
 use Rattle.tables.specs.Tables.{andAlso}
-use Rattle.site_sheet.specs.Draft.{rightRowFits}
+use Rattle.site_lines.specs.Draft.{rightRowFits}
 use Rattle.site_tables.proofs.row.right_fits.Statement.{statement}
 use Rattle.site_tables.proofs.row.right_fits.Tie as tie
 

@@ -2,7 +2,7 @@
 -- Assumes nothing.
 use borrow.Author.Tests.{le-leb, lt-leb}
 use Rattle.tables.specs.Tables.{andAlso}
-use Rattle.site_sheet.specs.Draft.{siteRowFits}
+use Rattle.site_lines.specs.Draft.{siteRowFits}
 use Rattle.site_tables.proofs.row.site_fits.Statement.{statement}
 use Rattle.site_tables.proofs.row.site_fits.Tie as tie
 

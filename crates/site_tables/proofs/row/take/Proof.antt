@@ -1,6 +1,6 @@
 -- `site_tables::row::take` meets its contract: the line decides.
 -- Assumes nothing.
-use Rattle.site_sheet.specs.Draft.{takeLine}
+use Rattle.site_lines.specs.Draft.{takeLine}
 use borrow.Author.Needs.{needs}
 use Rattle.site_tables.proofs.row.take.Statement.{statement}
 use Rattle.site_tables.proofs.row.take.Tie as tie

@@ -3,8 +3,8 @@
 use mathlib.Core.Path.{sym, _∙_}
 use native.Mathlib.Omega.{arith}
 use borrow.Author.Tests.{not-true, not-false, eq-eqb, ne-eqb}
-use Rattle.site_sheet.specs.Draft.{takeLine, takeDoor}
-use Rattle.site_sheet.proofs.Fits.{door-in}
+use Rattle.site_lines.specs.Draft.{takeLine, takeDoor}
+use Rattle.site_lines.proofs.Fits.{door-in}
 use borrow.Author.Needs.{needs}
 use Rattle.site_tables.proofs.row.take_door.Statement.{statement}
 use Rattle.site_tables.proofs.row.take_door.Tie as tie

@@ -3,8 +3,8 @@
 use mathlib.Core.Path.{sym, _∙_}
 use native.Mathlib.Omega.{arith}
 use borrow.Author.Tests.{not-true, not-false, eq-eqb, ne-eqb}
-use Rattle.site_sheet.specs.Draft.{takeLine, takeExit}
-use Rattle.site_sheet.proofs.Fits.{exit-in}
+use Rattle.site_lines.specs.Draft.{takeLine, takeExit}
+use Rattle.site_lines.proofs.Fits.{exit-in}
 use borrow.Author.Needs.{needs}
 use Rattle.site_tables.proofs.row.take_exit.Statement.{statement}
 use Rattle.site_tables.proofs.row.take_exit.Tie as tie

@@ -2,7 +2,7 @@
 -- Assumes nothing.
 use mathlib.Core.Path.{sym, _∙_}
 use borrow.Author.Tests.{not-true, not-false, eq-eqb, ne-eqb}
-use Rattle.site_sheet.specs.Draft.{takeLine, takeSite}
+use Rattle.site_lines.specs.Draft.{takeLine, takeSite}
 use borrow.Author.Needs.{needs}
 use Rattle.site_tables.proofs.row.take_site.Statement.{statement}
 use Rattle.site_tables.proofs.row.take_site.Tie as tie

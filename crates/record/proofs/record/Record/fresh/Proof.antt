@@ -1,6 +1,6 @@
 -- `Record::fresh` meets its contract: each list is zeros of its length. Assumes nothing.
 use borrow.Author.Needs.{needs}
-use Rattle.record.specs.Doors.{zeros}
+use Rattle.tables.specs.Zero.{zeros}
 use Rattle.record.proofs.record.Record.fresh.Statement.{statement}
 use Rattle.record.proofs.record.Record.fresh.Tie as tie
 
