@@ -22,7 +22,7 @@ PARTS = {
     "text": ["Text"],
     "number_rows": ["Text"],
     "lists": ["Tables"],
-    "told": ["Text", "Enum"],
+    "findings": ["Text", "Enum"],
     "asked_place": ["Enum"],
     "asked_grant": ["Enum"],
     "asked_way": ["Enum"],
@@ -46,7 +46,7 @@ PARTS = {
     "steps": ["Steps"],
     "run": ["Run"],
     "blank_lists": ["Run"],
-    "outside": ["Run"],
+    "program_io": ["Run"],
     "sheet_files": ["Run"],
 }
 # The crates whose specs/ say demand 1 and the uniqueness of answers, and the two records of `demands` that hold all their parts.

@@ -2,8 +2,8 @@
 -- The numbers are 01's, "Numbers given back".
 use Prim.Native.Nat.{ℕ}
 use Rattle.numbers.specs.Numbers.{doneNo, noSuchNo, unsoundNo}
-use Rattle.told.specs.declared.Found.{Found}
-use Rattle.told.specs.declared.Found.the-variants as found
+use Rattle.findings.specs.declared.Found.{Found}
+use Rattle.findings.specs.declared.Found.the-variants as found
 use Rattle.asked_grant.specs.declared.GrantAnswer.{GrantAnswer}
 use Rattle.asked_grant.specs.declared.GrantAnswer.the-variants as grant
 

@@ -1,8 +1,8 @@
 // Which door is granted to a person? What is told, and its number.
 ghost use mathlib.Core.Path.{_≡_};
 ghost use Rattle.asked_grant.specs.{grantNo, grantTold};
+use findings::Found;
 use numbers::Paper;
-use told::Found;
 
 // Which door is granted to a person.
 pub enum GrantAnswer {

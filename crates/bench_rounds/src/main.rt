@@ -2,11 +2,11 @@
 // bench/run times it.
 use blank_lists::blank_panel_text;
 use blank_lists::blank_sheet;
-use outside::number_asked;
-use outside::write_text;
+use findings::Printed;
+use program_io::number_asked;
+use program_io::write_text;
 use run::texts::panel_text;
 use sheet_files::read_sheet;
-use told::Printed;
 
 // The same text again and again into the same list; the last one's length, 0 for no round.
 fn text_in_rounds<'a>(rounds: usize, site: &'a [u8], steps: &'a [u8], out: &'a mut [u8]) -> usize {

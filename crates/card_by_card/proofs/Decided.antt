@@ -10,6 +10,7 @@ use Rattle.record.specs.declared.record.Record.{Record}
 use Rattle.record.specs.declared.steps.Step.{Step}
 use Rattle.phases.specs.declared.answer.Answer.the-variants.{Done}
 use Rattle.phases.specs.Kinds.{StepRow}
+use Rattle.phases.specs.Answers.{reasonNone, reasonBusy}
 use Rattle.record.specs.Run.{Reply, replyBy, rowOf}
 use Rattle.run_events.specs.Events.{What, Grant, Denial, Passage, Lapse, RunEvent}
 use Rattle.run_events.specs.Told.{Standing, Free, CardOf, GrantOf, Ended}
@@ -26,7 +27,7 @@ alike-both (unused on) behind = unused (alike-both on behind)
 
 -- a grant is granted
 granted-same : {xs ys : List Reply} → Alike xs ys → Alike (grantedReply ∷ xs) (grantedReply ∷ ys)
-granted-same on = same (λ (e : _≡_ {A = ℕ} 0 3). omega arith) on
+granted-same on = same (λ (e : reasonNone ≡ reasonBusy). omega arith) on
 
 -- an open grant is the same on both sides
 pub alike-open : (s : Standing) → Alike (grantOpen s) (grantOpen s)
@@ -40,11 +41,11 @@ alike-open Ended = Alike.end
 alike-event : (what : What) {xs ys : List Reply} → Alike xs ys → Alike (decisionOf what ++ xs) (decisionOf (servedAs what) ++ ys)
 unfolding decisionOf servedAs
 alike-event Grant on = on
-alike-event (Denial why) {xs} {ys} on = go (eqb why 3) refl
+alike-event (Denial why) {xs} {ys} on = go (eqb why reasonBusy) refl
   where
-    go : (b : Bool) → eqb why 3 ≡ b → Alike (decisionOf (Denial why) ++ xs) (decisionOf (cond b Lapse (Denial why)) ++ ys)
-    go true e = rw (eqb-true why 3 e) (unused on)
-    go false e = same (eqb-false why 3 e) on
+    go : (b : Bool) → eqb why reasonBusy ≡ b → Alike (decisionOf (Denial why) ++ xs) (decisionOf (cond b Lapse (Denial why)) ++ ys)
+    go true e = rw (eqb-true why reasonBusy e) (unused on)
+    go false e = same (eqb-false why reasonBusy e) on
 alike-event Passage on = granted-same on
 alike-event Lapse on = granted-same on
 

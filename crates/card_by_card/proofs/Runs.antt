@@ -32,7 +32,7 @@ use Rattle.run_events.proofs.Steps.{not-done}
 use Rattle.card_by_card.specs.Serving.{endsCard, recorded, serviceOf, services}
 use Rattle.card_by_card.specs.Served.{Acts, end, then, Decides}
 use Rattle.card_by_card.proofs.Cleared.{cleared}
-use Rattle.card_by_card.proofs.Serial.{Leads, leads-end, Serves, serves-denial, serves-lapse, serves-passage}
+use Rattle.card_by_card.proofs.Serial.{LeadsTo, leads-end, Serves, serves-denial, serves-lapse, serves-passage}
 use Rattle.card_by_card.proofs.Cards.{recordedBy, recorded-both}
 
 -- ---- events served one after the other
@@ -55,7 +55,7 @@ unfolding lastOf
 last-both x [] more-rows = refl
 last-both x (row ∷ rows) more-rows = last-both (rowOf x row .next) rows more-rows
 
-pub all-lead : {x y : Record} {es : List RunEvent} → ServesAll x es y → Leads x (services es) y
+pub all-lead : {x y : Record} {es : List RunEvent} → ServesAll x es y → LeadsTo x (services es) y
 unfolding services
 all-lead {x} none = leads-end x
 all-lead {x} (more {e} {es} s on) =

@@ -72,30 +72,30 @@ abbrev pub turned : Record → ℕ → Door → ℕ → Step
 turned x d c why = record { next = putDoor x d c; answer = Done; phase = c .phase; reason = why }
 
 -- x with its door d as c is sound
-pub record At (x : Record) (d : ℕ) (c : Door) : Type 0 where
+pub record StandsAt (x : Record) (d : ℕ) (c : Door) : Type 0 where
   pub shaped : Shaped x
   pub sound : Sound (putDoor x d c)
   pub exists : d < x .doors
 
 -- from a record the steps of a list all act, and lead to another
-pub record Leads (r : Record) (rows : List StepRow) (after : Record) : Type 0 where
+pub record LeadsTo (r : Record) (rows : List StepRow) (after : Record) : Type 0 where
   pub acts : Acts r rows
   pub last : lastOf r rows ≡ after
 
-pub leads-end : (r : Record) → Leads r [] r
+pub leads-end : (r : Record) → LeadsTo r [] r
 unfolding lastOf
 leads-end r = record { acts = end; last = refl }
 
-pub leads-then : (r : Record) (row : StepRow) (s : Step) {rows : List StepRow} {y : Record} → rowOf r row ≡ s → s .answer ≡ Done → Leads (s .next) rows y
-    → Leads r (row ∷ rows) y
+pub leads-then : (r : Record) (row : StepRow) (s : Step) {rows : List StepRow} {y : Record} → rowOf r row ≡ s → s .answer ≡ Done → LeadsTo (s .next) rows y
+    → LeadsTo r (row ∷ rows) y
 unfolding lastOf
 leads-then r row s {rows} {y} e done on =
-    let on′ : Leads (rowOf r row .next) rows y = subst (λ (z : Step). Leads (z .next) rows y) (sym e) on in
+    let on′ : LeadsTo (rowOf r row .next) rows y = subst (λ (z : Step). LeadsTo (z .next) rows y) (sym e) on in
     record { acts = then (ap (λ (z : Step). z .answer) e ∙ done) (on′ .acts); last = on′ .last }
 
 -- ---- one door of x that isn't free
 
-module _ (x : Record) (d : ℕ) (c : Door) (so : At x d c) where
+module _ (x : Record) (d : ℕ) (c : Door) (so : StandsAt x d c) where
   within : d < mostDoors
   within = let most = so .sound .tables .in-range .doors-to in let h = so .exists in omega arith
 
@@ -117,7 +117,7 @@ module _ (x : Record) (d : ℕ) (c : Door) (so : At x d c) where
       does k p hp ok ∙ ap (act (putDoor x d c) d) e ∙ ap (λ (y : Record). record { next = y; answer = Done; phase = c′ .phase; reason = why }) (put-put x d c c′)
 
   -- a record reached by a step is sound
-  pub at-next : (k : Kind) (p : ℕ) (c′ : Door) (why : ℕ) → stepOf (putDoor x d c) k d p ≡ turned x d c′ why → At x d c′
+  pub at-next : (k : Kind) (p : ℕ) (c′ : Door) (why : ℕ) → stepOf (putDoor x d c) k d p ≡ turned x d c′ why → StandsAt x d c′
   at-next k p c′ why e =
       record {
         shaped = so .shaped;
@@ -127,8 +127,8 @@ module _ (x : Record) (d : ℕ) (c : Door) (so : At x d c) where
 
   -- one step of a service that names no person, and the rest of the service
   turn : (k : Kind) (c′ : Door) {rows : List StepRow} {y : Record} → namesPerson k ≡ false → allows k (c .phase) ≡ true
-      → effect k 0 (reasonFor (putDoor x d c) d (c .holder)) c ≡ Turns c′ 0 → (At x d c′ → Leads (putDoor x d c′) rows y)
-      → Leads (putDoor x d c) (stepAt k d ∷ rows) y
+      → effect k 0 (reasonFor (putDoor x d c) d (c .holder)) c ≡ Turns c′ 0 → (StandsAt x d c′ → LeadsTo (putDoor x d c′) rows y)
+      → LeadsTo (putDoor x d c) (stepAt k d ∷ rows) y
   turn k c′ nobody ok e on =
       let to = turns-to k 0 c′ 0 (λ named. clash named nobody) ok e in
       leads-then (putDoor x d c) (stepAt k d) (turned x d c′ 0) to refl (on (at-next k 0 c′ 0 to))
@@ -153,8 +153,8 @@ red-light = record { more = λ h n why. simp (lt-ltb 1 (suc (suc n)) (omega arit
 
 -- with n + 1 ticks to burn, it goes out with the last of them: by induction, whatever their number
 burning : (x : Record) (d : ℕ) {ph out : ℕ} → Light ph out → (h n : ℕ) {rows : List StepRow} {y : Record}
-    → (At x d (door out h 0) → Leads (putDoor x d (door out h 0)) rows y) → At x d (door ph h (suc n))
-    → Leads (putDoor x d (door ph h (suc n))) (ticked (suc n) d rows) y
+    → (StandsAt x d (door out h 0) → LeadsTo (putDoor x d (door out h 0)) rows y) → StandsAt x d (door ph h (suc n))
+    → LeadsTo (putDoor x d (door ph h (suc n))) (ticked (suc n) d rows) y
 unfolding ticked allows
 burning x d {ph} {out} light h zero on so =
     turn x d (door ph h 1) so Tick (door out h 0) refl refl (light .last h (reasonFor (putDoor x d (door ph h 1)) d h)) on
@@ -163,12 +163,12 @@ burning x d {ph} {out} light h (suc n) on so =
     (burning x d light h n on)
 
 -- `ack` frees the door
-acked : (x : Record) (d : ℕ) → At x d (door closed 0 0) → Leads (putDoor x d (door closed 0 0)) (stepAt Ack d ∷ []) (putDoor x d freeDoor)
+acked : (x : Record) (d : ℕ) → StandsAt x d (door closed 0 0) → LeadsTo (putDoor x d (door closed 0 0)) (stepAt Ack d ∷ []) (putDoor x d freeDoor)
 unfolding allows effect
 acked x d so = turn x d (door closed 0 0) so Ack freeDoor refl refl refl (λ _. leads-end _)
 
 module _ (x : Record) (d : ℕ) where
-  after-denial : (why : ℕ) → At x d (door denied 0 0) → Leads (putDoor x d (door denied 0 0)) (afterDecide (Denial why) d) (putDoor x d freeDoor)
+  after-denial : (why : ℕ) → StandsAt x d (door denied 0 0) → LeadsTo (putDoor x d (door denied 0 0)) (afterDecide (Denial why) d) (putDoor x d freeDoor)
   unfolding afterDecide allows effect orElse
   after-denial why so =
       turn x d (door denied 0 0) so Red (door red 0 redSpan) refl refl refl
@@ -176,8 +176,8 @@ module _ (x : Record) (d : ℕ) where
       (λ out. turn x d (door dimmed 0 0) out Dark (door closed 0 0) refl refl refl (acked x d)))
 
   -- `passed` at a walked door
-  passes : (h : ℕ) → At x d (door walked h 0)
-      → Leads (putDoor x d (door walked h 0)) (stepAt Passed d ∷ stepAt Ack d ∷ []) (putDoor (putAt x h (getD (x .destination) d 0)) d freeDoor)
+  passes : (h : ℕ) → StandsAt x d (door walked h 0)
+      → LeadsTo (putDoor x d (door walked h 0)) (stepAt Passed d ∷ stepAt Ack d ∷ []) (putDoor (putAt x h (getD (x .destination) d 0)) d freeDoor)
   unfolding allows effect act
   passes h so =
       let l = getD (x .destination) d 0 in
@@ -194,7 +194,7 @@ module _ (x : Record) (d : ℕ) where
         exists = so .exists;
       }))
 
-  after-lapse : (h : ℕ) → At x d (door granted h 0) → Leads (putDoor x d (door granted h 0)) (afterDecide Lapse d) (putDoor x d freeDoor)
+  after-lapse : (h : ℕ) → StandsAt x d (door granted h 0) → LeadsTo (putDoor x d (door granted h 0)) (afterDecide Lapse d) (putDoor x d freeDoor)
   unfolding afterDecide allows effect orElse
   after-lapse h so =
       turn x d (door granted h 0) so Green (door green h greenSpan) refl refl refl
@@ -202,8 +202,8 @@ module _ (x : Record) (d : ℕ) where
       (λ out. turn x d (door expired h 0) out Lapsed (door closed 0 0) refl refl refl (acked x d)))
 
   -- the person is put in the door's destination by `passed`, and by no other step of the service
-  after-passage : (h : ℕ) → At x d (door granted h 0)
-      → Leads (putDoor x d (door granted h 0)) (afterDecide Passage d) (putDoor (putAt x h (getD (x .destination) d 0)) d freeDoor)
+  after-passage : (h : ℕ) → StandsAt x d (door granted h 0)
+      → LeadsTo (putDoor x d (door granted h 0)) (afterDecide Passage d) (putDoor (putAt x h (getD (x .destination) d 0)) d freeDoor)
   unfolding afterDecide allows effect orElse
   after-passage h so =
       turn x d (door granted h 0) so Green (door green h greenSpan) refl refl refl
@@ -218,7 +218,7 @@ placed r place = holding r place (r .phase) (r .holder) (r .count)
 -- a service begun at a record acts and leads to another, its `decide` answers as the event's did, but for reason 3, who is moved is
 -- who passed, and all else is as it was
 pub record Serves (r : Record) (e : RunEvent) (after : Record) : Type 0 where
-  pub leads : Leads r (serviceOf e) after
+  pub leads : LeadsTo r (serviceOf e) after
   pub decides : Reads (decideOf r e .phase) (decideOf r e .reason) (servedAs (e .what))
   pub moved : after .place ≡ placesBy (r .destination) (r .place) (e ∷ [])
   pub rest : after ≡ placed r (after .place)
@@ -268,14 +268,14 @@ module _ (x : Record) (sh : Shaped x) (s : Sound x) (d : ℕ) (hd : d < x .doors
   admitted-then a =
       reason-only (shown x d h) d h 0 (none (record { at-origin = a .at-origin; has-right = a .has-right; no-grant = still-none h (a .no-grant) }))
 
-  free-at : At x d freeDoor
+  free-at : StandsAt x d freeDoor
   free-at = record { shaped = sh; sound = subst Sound (sym (put-as-is x d freeDoor is-free)) s; exists = hd }
 
   card-turns : stepOf (putDoor x d freeDoor) Card d h ≡ turned x d (door read h 0) 0
   unfolding allows effect
   card-turns = turns-to x d freeDoor free-at Card h (door read h 0) 0 (λ _. hh) refl refl
 
-  read-at : At x d (door read h 0)
+  read-at : StandsAt x d (door read h 0)
   read-at = at-next x d freeDoor free-at Card h (door read h 0) 0 card-turns
 
   -- `decide` turns the door to c
@@ -295,7 +295,7 @@ module _ (x : Record) (sh : Shaped x) (s : Sound x) (d : ℕ) (hd : d < x .doors
   module _ (n : ℕ) where
     serves : (c : Door) (why : ℕ) (what : What) (y : Record) → Decided c why → Reads (c .phase) why (servedAs what)
         → y .place ≡ placesBy (x .destination) (x .place) (event n d h what ∷ []) → y ≡ placed x (y .place) → doorOf y d ≡ freeDoor
-        → (At x d c → Leads (putDoor x d c) (afterDecide (servedAs what) d) (putDoor y d freeDoor)) → Serves x (event n d h what) y
+        → (StandsAt x d c → LeadsTo (putDoor x d c) (afterDecide (servedAs what) d) (putDoor y d freeDoor)) → Serves x (event n d h what) y
     unfolding serviceOf
     serves c why what y decided told moved rest free-again on =
         let card : stepOf x Card d h ≡ turned x d (door read h 0) 0 = rw (put-as-is x d freeDoor is-free) at card-turns in

@@ -11,6 +11,7 @@ use Rattle.phases.specs.declared.table.Kind.the-variants.{Decide}
 use Rattle.phases.specs.declared.answer.Answer.the-variants.{Done}
 use Rattle.record.specs.declared.steps.Step.{Step}
 use Rattle.phases.specs.Phase.{granted, denied}
+use Rattle.phases.specs.Answers.{reasonBusy}
 use Rattle.door.specs.Door.{freeDoor}
 use Rattle.record.specs.Doors.{planOf, doorOf, freshRecord, Shaped}
 use Rattle.record.specs.Sound.{Sound}
@@ -118,8 +119,8 @@ grantOpen Ended = []
 -- decisions that are the same one by one, but for reason 3, which is granted
 pub data Alike : List Reply → List Reply → Type 0 where
   end : Alike [] []
-  same : {x : Reply} {xs ys : List Reply} → (x .reason ≡ 3 → ⊥) → Alike xs ys → Alike (x ∷ xs) (x ∷ ys)
-  unused : {xs ys : List Reply} → Alike xs ys → Alike (deniedReply 3 ∷ xs) (grantedReply ∷ ys)
+  same : {x : Reply} {xs ys : List Reply} → (x .reason ≡ reasonBusy → ⊥) → Alike xs ys → Alike (x ∷ xs) (x ∷ ys)
+  unused : {xs ys : List Reply} → Alike xs ys → Alike (deniedReply reasonBusy ∷ xs) (grantedReply ∷ ys)
 
 -- Demand 3, of a fresh record and a list of steps, of any kinds and numbers, acting or refused
 pub record DemandThree (fresh : Record) (rows : List StepRow) : Type 0 where

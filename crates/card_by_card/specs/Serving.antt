@@ -8,6 +8,7 @@ use Rattle.record.specs.declared.record.Record.{Record}
 use Rattle.phases.specs.declared.table.Kind.{Kind}
 use Rattle.phases.specs.declared.table.Kind.the-variants.{Card, Decide, Green, Red, Walk, Tick, Passed, Lapsed, Dark, Ack}
 use Rattle.phases.specs.Phase.{greenSpan, redSpan}
+use Rattle.phases.specs.Answers.{reasonBusy}
 use Rattle.phases.specs.Kinds.{StepRow}
 use Rattle.run_events.specs.Events.{What, Grant, Denial, Passage, Lapse, RunEvent, eventsIn}
 
@@ -35,7 +36,7 @@ recordedIn fresh rows = recorded (eventsIn fresh rows)
 -- one after the other, as a lapse, "an unused grant"
 unfoldable pub servedAs : What → What
 servedAs Grant = Grant
-servedAs (Denial why) = cond (eqb why 3) Lapse (Denial why)
+servedAs (Denial why) = cond (eqb why reasonBusy) Lapse (Denial why)
 servedAs Passage = Passage
 servedAs Lapse = Lapse
 

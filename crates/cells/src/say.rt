@@ -2,11 +2,11 @@
 ghost use mathlib.Core.Path.{_≡_};
 ghost use Prim.Native.Nat.{_≤_};
 ghost use lib.ListN.{length};
-ghost use Rattle.saying.specs.Say.{contentAt, sameBytes, isWord, needlessZero, digitsFrom, numberIn, numberAt, saysWords};
+ghost use Rattle.cell_meaning.specs.Say.{contentAt, sameBytes, isWord, needlessZero, digitsFrom, numberIn, numberAt, saysWords};
 ghost use Rattle.grammar.specs.Sizes.{width};
+use cell_meaning::Number;
 use grammar::cut::Cell;
 use grammar::cut::Cells;
-use saying::Number;
 
 // A number has at most this many digits.
 const WIDTH: usize = 3;

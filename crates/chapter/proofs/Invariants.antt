@@ -28,18 +28,18 @@ use Rattle.chapter.proofs.Site.{may-exists}
 -- ---- the phases of each set
 
 -- door d exists and its phase is from a to b
-pub record Span (r : Record) (d a b : ℕ) : Type 0 where
+pub record PhaseWithin (r : Record) (d a b : ℕ) : Type 0 where
   pub exists : d < r .doors
   pub low : a ≤ getD (r .phase) d 0
   pub high : getD (r .phase) d 0 ≤ b
 
 -- the first phase of a span, or the others
-first : {r : Record} {d a b : ℕ} → Span r d a b → (getD (r .phase) d 0 ≡ a) ⊎ Span r d (suc a) b
+first : {r : Record} {d a b : ℕ} → PhaseWithin r d a b → (getD (r .phase) d 0 ≡ a) ⊎ PhaseWithin r d (suc a) b
 first s = ⊎-elim (λ e. inl (sym e)) (λ h. inr (record { exists = s .exists; low = h; high = s .high })) (eq-or-lt-of-le (s .low))
 
 -- one of two phases, both from lo to hi
 one-within : (r : Record) (d lo hi a b : ℕ) → d < r .doors → orElse (eqb (getD (r .phase) d 0) a) (eqb (getD (r .phase) d 0) b) ≡ true
-    → lo ≤ a → a ≤ hi → lo ≤ b → b ≤ hi → Span r d lo hi
+    → lo ≤ a → a ≤ hi → lo ≤ b → b ≤ hi → PhaseWithin r d lo hi
 one-within r d lo hi a b h test la ha lb hb =
     ⊎-elim (λ (e : getD (r .phase) d 0 ≡ a). record { exists = h; low = omega arith; high = omega arith })
     (λ (e : getD (r .phase) d 0 ≡ b). record { exists = h; low = omega arith; high = omega arith }) (one-of (getD (r .phase) d 0) a b test)
@@ -69,11 +69,11 @@ module _ (r : Record) (d : ℕ) where
   unfolding isIn
   in-mAckn i = eqb-true _ _ (i .phase)
 
-  in-mAccept : DoorIn r mAccept d → Span r d granted green
+  in-mAccept : DoorIn r mAccept d → PhaseWithin r d granted green
   unfolding isIn
   in-mAccept i = one-within r d granted green _ _ (i .exists) (i .phase) (lit≤ tt) (lit≤ tt) (lit≤ tt) (lit≤ tt)
 
-  in-mRefuse : DoorIn r mRefuse d → Span r d denied red
+  in-mRefuse : DoorIn r mRefuse d → PhaseWithin r d denied red
   unfolding isIn
   in-mRefuse i = one-within r d denied red _ _ (i .exists) (i .phase) (lit≤ tt) (lit≤ tt) (lit≤ tt) (lit≤ tt)
 
@@ -82,18 +82,18 @@ module _ (r : Record) (d : ℕ) where
   in-BLR i = eqb-false _ _ (not-true _ (i .phase))
 
   -- grn is the phases 2 to 5
-  pub in-grn : stateOf3 r .set m3.grn d → Span r d granted expired
+  pub in-grn : stateOf3 r .set m3.grn d → PhaseWithin r d granted expired
   in-grn (inl a) = let s = in-mAccept a in record { exists = a .exists; low = s .low; high = omega (arith, s .high) }
   in-grn (inr (inl a)) = let e = in-mPass a in record { exists = a .exists; low = omega arith; high = omega arith }
   in-grn (inr (inr a)) = let e = in-mOff-grn a in record { exists = a .exists; low = omega arith; high = omega arith }
 
   -- red is the phases 6 to 8
-  in-red : stateOf3 r .set m3.red d → Span r d denied dimmed
+  in-red : stateOf3 r .set m3.red d → PhaseWithin r d denied dimmed
   in-red (inl a) = let s = in-mRefuse a in record { exists = a .exists; low = s .low; high = omega (arith, s .high) }
   in-red (inr a) = let e = in-mOff-red a in record { exists = a .exists; low = omega arith; high = omega arith }
 
   -- and back
-  grn-of : Span r d granted expired → stateOf3 r .set m3.grn d
+  grn-of : PhaseWithin r d granted expired → stateOf3 r .set m3.grn d
   unfolding isIn orElse
   grn-of s =
       ⊎-elim (λ (e : getD (r .phase) d 0 ≡ granted). inl (record { exists = s .exists; phase = rw e }))
@@ -102,7 +102,7 @@ module _ (r : Record) (d : ℕ) where
       (λ s5. let e : getD (r .phase) d 0 ≡ expired = omega (arith, s5 .low, s5 .high) in inr (inr (record { exists = s .exists; phase = rw e })))
       (first s4)) (first s3)) (first s)
 
-  red-of : Span r d denied dimmed → stateOf3 r .set m3.red d
+  red-of : PhaseWithin r d denied dimmed → stateOf3 r .set m3.red d
   unfolding isIn orElse
   red-of s =
       ⊎-elim (λ (e : getD (r .phase) d 0 ≡ denied). inl (record { exists = s .exists; phase = rw e }))
@@ -110,11 +110,11 @@ module _ (r : Record) (d : ℕ) where
       (λ s8. let e : getD (r .phase) d 0 ≡ dimmed = omega (arith, s8 .low, s8 .high) in inr (record { exists = s .exists; phase = rw e }))
       (first s7)) (first s)
 
-  pub grants-of : Span r d granted expired → grants (getD (r .phase) d 0) ≡ true
+  pub grants-of : PhaseWithin r d granted expired → grants (getD (r .phase) d 0) ≡ true
   unfolding grants
   grants-of s = and-both _ _ (le-leb 2 _ (s .low)) (le-leb _ 5 (s .high))
 
-  of-grants : d < r .doors → grants (getD (r .phase) d 0) ≡ true → Span r d granted expired
+  of-grants : d < r .doors → grants (getD (r .phase) d 0) ≡ true → PhaseWithin r d granted expired
   unfolding grants
   of-grants h g = record { exists = h; low = leb-true 2 _ (and-left _ _ g); high = leb-true _ 5 (and-right _ _ g) }
 
@@ -126,7 +126,7 @@ module _ (r : Record) (d : ℕ) where
   pub four : Sound r → DoorIn r BLR d → (dom (CardAt r) ∪ stateOf3 r .set m3.grn ∪ stateOf3 r .set m3.red ∪ DoorIn r mAckn) d
   unfolding isIn
   four s b =
-      let all : Span r d read closed = record { exists = b .exists; low = pos-of-ne-zero (in-BLR b); high = s .doors d (b .exists) .known } in
+      let all : PhaseWithin r d read closed = record { exists = b .exists; low = pos-of-ne-zero (in-BLR b); high = s .doors d (b .exists) .known } in
       ⊎-elim (λ e. inl (getD (r .holder) d 0, record { exists = b .exists; phase = e; person = refl }))
       (λ rest.
       ⊎-elim (λ h. inr (inl (grn-of (record { exists = b .exists; low = rest .low; high = omega arith }))))
@@ -224,6 +224,6 @@ inv4 r =
       inv4-7 = λ d g. record { exists = g .exists; phase = rw (in-RED r d g) };
     }
   where
-    apart : (d : ℕ) → Span r d granted green → (DoorIn r mPass ∪ DoorIn r mOff-grn) d → ⊥
+    apart : (d : ℕ) → PhaseWithin r d granted green → (DoorIn r mPass ∪ DoorIn r mOff-grn) d → ⊥
     apart d s (inl g) = omega (arith, s .high, in-mPass r d g)
     apart d s (inr g) = omega (arith, s .high, in-mOff-grn r d g)

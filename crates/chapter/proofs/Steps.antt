@@ -366,5 +366,5 @@ module _ (r : Record) (sh : Shaped r) (s : Sound r) (d p : ℕ) where
       go Unknown w = no-way (w .allowed)
 
 -- an idle tick is done
-pub ticks : (r : Record) → Shaped r → Sound r → (d p : ℕ) (k : Kind) → Idle r k d → stepOf r k d p .answer ≡ Done
-ticks r sh s d p k i = subst (λ (x : Kind). stepOf r x d p .answer ≡ Done) (sym (i .tick)) (tick-done r d p sh s (i .exists))
+pub idle-done : (r : Record) → Shaped r → Sound r → (d p : ℕ) (k : Kind) → Idle r k d → stepOf r k d p .answer ≡ Done
+idle-done r sh s d p k i = subst (λ (x : Kind). stepOf r x d p .answer ≡ Done) (sym (i .tick)) (tick-done r d p sh s (i .exists))

@@ -47,7 +47,7 @@ use Rattle.chapter.specs.Reading.{constantsOf, stateOf, stateOf3, stateO
 use Rattle.chapter.specs.Panel.{StartOfEach, OneMove, RunOfEach, EQP-3, Live}
 use Rattle.machines.proofs.Safety.{saf-1, saf-2}
 use Rattle.chapter.proofs.Site.{axioms, saf-3, way-leads}
-use Rattle.chapter.proofs.Steps.{follows, enabled, ticks}
+use Rattle.chapter.proofs.Steps.{follows, enabled, idle-done}
 use Rattle.chapter.proofs.Stands.{stands-once, idle-stands, live, fresh-starts, first-failing}
 use Rattle.machines.proofs.Refine as refine
 use Rattle.chapter.proofs.Panel as panel
@@ -62,7 +62,7 @@ fresh-reads = fresh-starts
 -- A step is done exactly when the event that it stands for is enabled, or it is a tick that stands for nothing.
 pub step-acts : (r : Record) → Shaped r → Sound r → (k : Kind) (d p : ℕ) → (stepOf r k d p .answer ≡ Done) ↔ (Enabled r k d p ⊎ Idle r k d)
 step-acts r sh s k d p =
-    (enabled r sh s d p k, ⊎-elim (λ e. follows r sh s d p k (e .event) (e .stands) (e .guard) .0) (ticks r sh s d p k))
+    (enabled r sh s d p k, ⊎-elim (λ e. follows r sh s d p k (e .event) (e .stands) (e .guard) .0) (idle-done r sh s d p k))
 
 -- And where the event is enabled, the next record reads as the state after its action.
 pub step-follows : (r : Record) → Shaped r → Sound r → (k : Kind) (d p : ℕ) (e : m4.Event) → StandsFor r d p k e → m4.Guard (constantsOf r) (stateOf r) e

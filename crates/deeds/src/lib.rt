@@ -22,7 +22,7 @@ use tables::MOST_DOORS;
 use tables::MOST_PEOPLE;
 
 // The phase that is told where there is no door to tell it of.
-const UNTOLD: u8 = 0;
+pub const UNTOLD: u8 = 0;
 
 // What a step tells.
 #[repr(C)]

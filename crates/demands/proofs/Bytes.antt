@@ -18,11 +18,11 @@ use Rattle.run_events.specs.Lines.{linesOf, heardOf}
 use Rattle.card_by_card.specs.Serving.{recordedIn, services}
 use Rattle.card_by_card.specs.Served.{servedIn}
 use Rattle.card_by_card.proofs.DemandThree.{demand-3}
-use Rattle.demands.specs.Bytes.{replyIn, PrintedAsServed}
+use Rattle.demands.specs.Bytes.{replyOfLine, PrintedAsServed}
 use Rattle.paper_cases.proofs.Accepted.{accepted-fresh}
 
 -- the replies of the lines are the replies of the run
-replies-heard : (r : Record) (rows : List StepRow) → map replyIn (heardOf r rows) ≡ repliesOf r rows
+replies-heard : (r : Record) (rows : List StepRow) → map replyOfLine (heardOf r rows) ≡ repliesOf r rows
 unfolding heardOf linesOf repliesOf
 replies-heard r [] = refl
 replies-heard r (row ∷ rows) = ap (λ (l : List Reply). replyBy (rowOf r row) ∷ l) (replies-heard (rowOf r row .next) rows)

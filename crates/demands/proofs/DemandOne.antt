@@ -10,10 +10,10 @@ use Rattle.grammar.specs.declared.cut.RowCut.{RowCut}
 use Rattle.grammar.specs.declared.cut.RowCut.the-variants.{Cut, NoRow, Broken}
 use Rattle.grammar.specs.Cut.{cutRow}
 use Rattle.tables.specs.Tables.{andAlso}
-use Rattle.told.specs.declared.Found.{Found}
-use Rattle.told.specs.declared.Found.the-variants.{At, Nothing}
-use Rattle.told.specs.declared.RightFound.{RightFound}
-use Rattle.told.specs.declared.RightFound.the-variants as pair
+use Rattle.findings.specs.declared.Found.{Found}
+use Rattle.findings.specs.declared.Found.the-variants.{At, Nothing}
+use Rattle.findings.specs.declared.RightFound.{RightFound}
+use Rattle.findings.specs.declared.RightFound.the-variants as pair
 use Rattle.tables.specs.Tests.{firstNoExit, firstStray, firstNoDoor, firstNoRight, firstShutOut, countsFit, planInRange, lawfulB}
 use Rattle.soundness.specs.SoundTest.{listsSound}
 use Rattle.record.specs.SoundTest.{soundB}
@@ -123,4 +123,4 @@ site-tells s =
     }
 
 pub of-site : SiteAnswers
-of-site = record { line-of = line-exactly; read-rows = rows-taken; read-site = site-tells; verdict-number = number-most; verdict-place = place-told; verdict-second-place = second-told }
+of-site = record { site-line-of = line-exactly; read-rows = rows-taken; read-site = site-tells; verdict-number = number-most; verdict-place = place-told; verdict-second-place = second-told }

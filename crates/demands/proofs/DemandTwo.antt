@@ -28,6 +28,7 @@ use Rattle.phases.specs.Kinds.{StepRow, allows, namesPerson}
 use Rattle.record.specs.Sound.{Sound}
 use Rattle.door_does.specs.declared.Does.{Does}
 use Rattle.door_does.specs.Does.{burns, effect}
+use Rattle.deeds.specs.Deeds.{existAmong}
 use Rattle.record.specs.Steps.{reasonFor, Admitted, act, doing, stepOf, exist}
 use Rattle.record.specs.Run.{lastOf}
 use Rattle.record.specs.Lights.{NoGreenNoWalk, NoRed}
@@ -147,7 +148,7 @@ starts s e =
 module _ (r : Record) (sh : Shaped r) (s : Sound r) (d : ℕ) (h : d < r .doors) where
   lights : (on off : Kind) (burning : ℕ) → namesPerson on ≡ false → namesPerson off ≡ false → allows on (getD (r .phase) d 0) ≡ true
       → allows off (getD (r .phase) d 0) ≡ false → ((p : ℕ) → act r d (doing r on d p) .phase ≡ burning) → Light r d on off burning
-  unfolding exist orElse andAlso
+  unfolding existAmong orElse andAlso
   lights on off burning nobody no-one ok no-way lit =
       let e : (p : ℕ) → stepOf r on d p ≡ act r d (doing r on d p) = λ p. step-done r on d p sh s h (λ named. clash named nobody) ok in
       let there : (p : ℕ) → exist r off d p ≡ true = λ p. rw (lt-ltb d (r .doors) h, no-one) in

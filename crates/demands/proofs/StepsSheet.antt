@@ -43,4 +43,4 @@ decode-tells s from kinds doors persons = go (stepsRoomIn s kinds doors persons)
         }
 
 pub of-steps : StepsAnswers
-of-steps = record { line-of = λ s cells r h. record { a-step = step-exactly s r h; bad = bad-exactly s r h }; heading-of = heading-exactly limit; decode = decode-tells }
+of-steps = record { steps-line-of = λ s cells r h. record { a-step = step-exactly s r h; bad = bad-exactly s r h }; heading-of = heading-exactly limit; decode = decode-tells }

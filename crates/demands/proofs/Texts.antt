@@ -1,14 +1,16 @@
 -- Demand 1 of the two texts: no text is too long for the list that its program lends. Assumes nothing.
-use Prim.Native.Nat.{ℕ, _+_, _≤_, _<_}
+use Prim.Native.Nat.{ℕ, _+_, _*_, _≤_, _<_}
 use mathlib.Core.Path.{_≡_, refl, sym, ap, _∙_}
 use mathlib.Core.Bool.{Bool, true, false, true≢false, cond}
 use mathlib.Core.List.{List, [], _++_}
 use native.Mathlib.Omega.{arith}
 use borrow.Author.Tests.{eqb-true, leb-true, leb-false}
-use lib.Dec.{eqb, leb}
+use lib.Dec.{eqb, ltb, leb}
 use lib.ListN.{length, getD, take, replicate, length-append, length-replicate}
 use lib.Seq.{getD-take, length-take-le}
-use Rattle.tables.specs.Tables.{Plan, mostPeople, mostLocations}
+use Rattle.tables.specs.Tables.{Plan, mostPeople, mostLocations, mayBe, orElse, andAlso}
+use Rattle.site_lines.specs.Draft.{unmarked}
+use Rattle.site_lines.proofs.Held.{unmarked-at}
 use Rattle.record.specs.declared.record.Record.{Record}
 use Rattle.record.specs.Doors.{Shaped}
 use Rattle.record.specs.Sound.{Sound}
@@ -23,7 +25,7 @@ use Rattle.steps_sheet.specs.declared.Heading.{Heading}
 use Rattle.steps_sheet.specs.declared.Heading.the-variants as heading
 use Rattle.steps_sheet.specs.Steps.{headingOf, stepsFrom}
 use Rattle.steps_sheet.proofs.Theorems.{few-steps, headed-short}
-use Rattle.told.specs.declared.Printed.the-variants.{Text}
+use Rattle.findings.specs.declared.Printed.the-variants.{Text}
 use Rattle.text.specs.Printed.{printedOf}
 use Rattle.run_text.specs.Printed.{panelHeader, whereHeader, panelRow, answerRows, lastRow, runText, aloneText, ranText, stepsText, panelText, placeRows, placesText, recordText, lastRecord, whereText}
 use Rattle.blank_lists.specs.{mostPanelText, mostWhereText}
@@ -120,12 +122,22 @@ in-blank {most} text h = let l = blank-long most in printed-tells text (replicat
 no-more-written : (list : List ℕ) (n : ℕ) → cond (leb n (length list)) n 0 ≤ length list
 no-more-written list n = either (λ (m : ℕ). m ≤ length list) (leb n (length list)) (λ h. leb-true n (length list) h) (λ _. omega arith)
 
+nobody-may : (p l : ℕ) → mayBe (replicate (mostPeople * mostLocations) false) p l ≡ eqb l 0
+unfolding mayBe orElse andAlso unmarked
+nobody-may p l = rw (unmarked-at (mostPeople * mostLocations) (p * mostLocations + l)) (go (eqb l 0) (ltb l mostLocations))
+  where
+    go : (a b : Bool) → cond a true (cond b false false) ≡ a
+    go true b = refl
+    go false true = refl
+    go false false = refl
+
 pub of-run : RunAnswers
 of-run =
     record {
       panel-text = λ site steps out told after w. text-tells w;
       where-text = λ site steps out told after w. text-tells w;
       blank-sheet = λ s h. let l = blank-long (limit + 1) in omega arith;
+      blank-rights = nobody-may;
       write-text = no-more-written;
       panel-fits = panel-fits;
       where-fits = where-fits;

@@ -10,7 +10,7 @@ use Rattle.demands.specs.Unique.{SiteUnique, StepsUnique, RunUnique, Pap
 pub site-unique : SiteUnique
 site-unique =
     record {
-      line-of = λ s cells. alone;
+      site-line-of = λ s cells. alone;
       read-rows = λ s from. alone;
       read-site = λ s. alone;
       verdict-number = λ v. alone;
@@ -19,7 +19,7 @@ site-unique =
     }
 
 pub steps-unique : StepsUnique
-steps-unique = record { line-of = λ s cells. alone; heading-of = λ s. alone; decode = λ s from kinds doors persons. beside-three }
+steps-unique = record { steps-line-of = λ s cells. alone; heading-of = λ s. alone; decode = λ s from kinds doors persons. beside-three }
 
 pub run-unique : RunUnique
 run-unique =
@@ -28,6 +28,7 @@ run-unique =
       where-text = λ site steps out. one-printed;
       write-text = λ list n. alone;
       blank-sheet = alone;
+      blank-rights = alone;
       blank-panel-text = alone;
       blank-where-text = alone;
     }

@@ -16,13 +16,13 @@ use Rattle.card_by_card.specs.Served.{decidedAt, decisionsAt, grantOpen, Alike,
 abbrev pub heardIn : List ℕ → Steps → List Line
 heardIn site said = heardOf (siteOf site .«record») (said .rows)
 
-abbrev pub replyIn : Line → Reply
-replyIn line = line .reply
+abbrev pub replyOfLine : Line → Reply
+replyOfLine line = line .reply
 
 -- of a site sheet, a steps sheet and the steps that it says
 pub record PrintedAsServed (site steps : List ℕ) (said : Steps) : Type 0 where
   -- `panel` prints "a row for each data row": the answer, the phase and the reason of each line, in order;
-  pub panel : panelText site steps ≡ runText (map replyIn (heardIn site said)) (said .whole)
+  pub panel : panelText site steps ≡ runText (map replyOfLine (heardIn site said)) (said .whole)
   -- of the lines of a door that are a `decide` answered 0, in order, each has the decision and the reason with which its card is served
   -- from the fresh record, but for reason 3; only a grant that is open at the end isn't served; what is served is made of these lines alone;
   pub decided : (d : ℕ) → Alike (decidedAt d (heardIn site said))

@@ -3,23 +3,24 @@
 -- the definition that its promise cites. A function that answers no number tells a place or a fact: the place is there, the fact
 -- is told exactly. The parts of what stands below a site sheet are in `sheet_answers/specs/Answers.antt`, `table_answers/specs/Answers.antt`
 -- and `record_answers/specs/Answers.antt`.
-use Prim.Native.Nat.{ℕ, _+_, _≤_, _<_}
+use Prim.Native.Nat.{ℕ, _+_, _*_, _≤_, _<_}
 use mathlib.Core.Path.{_≡_}
-use mathlib.Core.Bool.{true, cond}
+use mathlib.Core.Bool.{true, false, cond}
 use mathlib.Core.List.{List}
 use mathlib.Core.Logic.{_↔_}
 use lib.ListN.{length, drop, replicate}
 use lib.Seq.{sets}
-use lib.Dec.{leb}
+use lib.Dec.{eqb, leb}
 use Rattle.numbers.specs.Numbers.{doneNo, tooLongNo, noSiteNo, noRightNo, shutOutNo, tooShortNo}
-use Rattle.told.specs.declared.Printed.{Printed}
-use Rattle.told.specs.declared.Printed.the-variants.{Text}
+use Rattle.findings.specs.declared.Printed.{Printed}
+use Rattle.findings.specs.declared.Printed.the-variants.{Text}
 use Rattle.text.specs.Printed.{printedOf, Prints}
 use Rattle.phases.specs.declared.answer.Answer.the-variants.{Done}
 use Rattle.phases.specs.Answers.{answerNo}
 use Rattle.record.specs.SoundTest.{soundB}
 use Rattle.verdict.specs.declared.Verdict.{Verdict}
 use Rattle.grammar.specs.declared.cut.Cells.{Cells}
+use Rattle.tables.specs.Tables.{mayBe, mostPeople, mostLocations}
 use Rattle.grammar.specs.Grammar.{Row}
 use Rattle.grammar.specs.Where.{RowHolds}
 use Rattle.grammar.specs.Rows.{rowsFrom}
@@ -58,7 +59,7 @@ pub record SiteTells (s : List ℕ) : Type 0 where
 
 pub record SiteAnswers : Type 0 where
   -- a row is told to say a line exactly when it says it
-  pub line-of : (s : List ℕ) (cells : Cells) (r : Row) → RowHolds s cells r → (line : SiteLine) → (siteLineAt s cells ≡ line) ↔ SaysSo r line
+  pub site-line-of : (s : List ℕ) (cells : Cells) (r : Row) → RowHolds s cells r → (line : SiteLine) → (siteLineAt s cells ≡ line) ↔ SaysSo r line
   -- rows are taken into tables that hold what they say, or the first with which something is wrong is told
   pub read-rows : (s : List ℕ) (from : ℕ) (lines : List SiteLine) → TextSaysLines (drop from s) lines → RowsTold lines (readLines blankDraft 1 (linesIn s (rowsFrom s from)))
   pub read-site : (s : List ℕ) → SiteTells s
@@ -95,12 +96,12 @@ pub record StepsLineTells (s : List ℕ) (cells : Cells) (r : Row) : Type 0 wher
   pub bad : (stepsLineAt s cells ≡ line.Bad) ↔ BadForm r
 
 pub record StepsAnswers : Type 0 where
-  pub line-of : (s : List ℕ) (cells : Cells) (r : Row) → RowHolds s cells r → StepsLineTells s cells r
+  pub steps-line-of : (s : List ℕ) (cells : Cells) (r : Row) → RowHolds s cells r → StepsLineTells s cells r
   -- a sheet is too long, has a header behind which its rows begin, or a wrong one, and is told to be exactly what it is
   pub heading-of : (s : List ℕ) (h : Heading) → (headingOf s ≡ h) ↔ HeadingSays limit s h
   pub decode : (s : List ℕ) (from : ℕ) (kinds doors persons : List ℕ) → DecodeTells s from kinds doors persons
 
--- ---- crates `run_text`, `run` and `sheet_files`
+-- ---- crates `run`, `blank_lists` and `program_io`
 
 pub record RunAnswers : Type 0 where
   pub panel-text : (site steps out : List ℕ) (told : Printed) (after : List ℕ) → Prints (panelText site steps) out told after
@@ -109,6 +110,8 @@ pub record RunAnswers : Type 0 where
       → TextTells (whereText site steps) out told after
   -- the list for a sheet has a byte more than a sheet may have, so that a longer file is seen to be longer
   pub blank-sheet : (s : List ℕ) → length s ≤ limit → length s < length {A = ℕ} (replicate (limit + 1) 0)
+  -- before any right is given nobody may be anywhere but outside
+  pub blank-rights : (p l : ℕ) → mayBe (replicate (mostPeople * mostLocations) false) p l ≡ eqb l 0
   -- no more is written than the list has
   pub write-text : (list : List ℕ) (n : ℕ) → cond (leb n (length list)) n 0 ≤ length list
   -- no text is too long for the lists that the programs lend,

@@ -2,14 +2,15 @@
 -- function: whatever its promise allows, the answer and what each lent list holds at exit, is one thing. The promise stands as in the
 -- function's `ensures`.
 -- The parts of what stands below a site sheet are in `sheet_answers`, `table_answers` and `record_answers`.
-use Prim.Native.Nat.{ℕ, _+_}
+use Prim.Native.Nat.{ℕ, _+_, _*_}
 use mathlib.Core.Path.{_≡_}
-use mathlib.Core.Bool.{cond}
+use mathlib.Core.Bool.{Bool, false, cond}
 use mathlib.Core.List.{List}
 use lib.ListN.{length, replicate}
 use lib.Dec.{leb}
 use Rattle.grammar.specs.Sizes.{limit}
-use Rattle.told.specs.declared.Printed.{Printed}
+use Rattle.tables.specs.Tables.{mostPeople, mostLocations}
+use Rattle.findings.specs.declared.Printed.{Printed}
 use Rattle.text.specs.Printed.{Prints}
 use Rattle.record.specs.declared.record.Record.{Record}
 use Rattle.record.specs.Steps.{First}
@@ -41,7 +42,7 @@ use Rattle.record_answers.specs.Deeds.{DeedsUnique}
 use Rattle.record_answers.specs.Enums.{EnumUnique}
 
 pub record SiteUnique : Type 0 where
-  pub line-of : (s : List ℕ) (cells : Cells) → Unique (λ (x : SiteLine). x ≡ siteLineAt s cells)
+  pub site-line-of : (s : List ℕ) (cells : Cells) → Unique (λ (x : SiteLine). x ≡ siteLineAt s cells)
   pub read-rows : (s : List ℕ) (from : ℕ) → Unique (λ (x : Reading). x ≡ readLines blankDraft 1 (linesIn s (rowsFrom s from)))
   pub read-site : (s : List ℕ) → Unique (λ (x : SiteRead). x ≡ siteOf s)
   pub verdict-number : (v : Verdict) → Unique (λ (x : ℕ). x ≡ site.verdictNo v)
@@ -49,7 +50,7 @@ pub record SiteUnique : Type 0 where
   pub verdict-second-place : (v : Verdict) → Unique (λ (x : ℕ). x ≡ secondPlace v)
 
 pub record StepsUnique : Type 0 where
-  pub line-of : (s : List ℕ) (cells : Cells) → Unique (λ (x : StepsLine). x ≡ stepsLineAt s cells)
+  pub steps-line-of : (s : List ℕ) (cells : Cells) → Unique (λ (x : StepsLine). x ≡ stepsLineAt s cells)
   pub heading-of : (s : List ℕ) → Unique (λ (x : Heading). x ≡ headingOf s)
   -- the answer, and the three lent lists at exit
   pub decode : (s : List ℕ) (from : ℕ) (kinds doors persons : List ℕ)
@@ -68,6 +69,7 @@ pub record RunUnique : Type 0 where
       → Unique (λ (x : Printed × List ℕ). Prints (whereText site steps) out (x .0) (x .1))
   pub write-text : (list : List ℕ) (n : ℕ) → Unique (λ (x : ℕ). x ≡ cond (leb n (length list)) n 0)
   pub blank-sheet : Unique (λ (x : List ℕ). x ≡ replicate (limit + 1) 0)
+  pub blank-rights : Unique (λ (x : List Bool). x ≡ replicate (mostPeople * mostLocations) false)
   pub blank-panel-text : Unique (λ (x : List ℕ). x ≡ replicate mostPanelText 0)
   pub blank-where-text : Unique (λ (x : List ℕ). x ≡ replicate mostWhereText 0)
 

@@ -11,8 +11,8 @@ use Rattle.grammar.specs.declared.cut.Mode.{Mode}
 use Rattle.grammar.specs.declared.cut.Mode.the-variants.{Fresh, Bare, Open, Shut, Return}
 use Rattle.grammar.specs.declared.cut.Cell.{Cell}
 use Rattle.grammar.specs.declared.cut.Cells.{Cells}
-use Rattle.grammar.specs.declared.cut.Move.{Move}
-use Rattle.grammar.specs.declared.cut.Move.the-variants.{Go, NextField, RowEnd, Wrong}
+use Rattle.grammar.specs.declared.cut.ByteMove.{ByteMove}
+use Rattle.grammar.specs.declared.cut.ByteMove.the-variants.{Go, NextField, RowEnd, Wrong}
 use Rattle.grammar.specs.declared.cut.FieldCut.{FieldCut}
 use Rattle.grammar.specs.declared.cut.FieldCut.the-variants.{Next, Last, Fault}
 use Rattle.grammar.specs.declared.cut.RowCut.{RowCut}
@@ -111,7 +111,7 @@ module _ (k : Cell) (cells : Cells) (i : ℕ) where
   stuck-end Return = now (mendOf Return) some (mends Return) (λ c rest other e. no-byte c rest e)
 
   module _ (mode : Mode) (b : ℕ) (bs : List ℕ) where
-    stuck-turn : (move : Move) → moveOf mode k b (i + 1) ≡ move
+    stuck-turn : (move : ByteMove) → moveOf mode k b (i + 1) ≡ move
         → ((m : Mode) (c : Cell) → StuckIf (rowFrom m c cells (i + 1)) bs (i + 1) (rowFrom m c cells (i + 1) bs))
         → StuckIf (rowFrom Fresh (emptyAt (i + 1)) (pushed cells k) (i + 1)) bs (i + 1) (rowFrom Fresh (emptyAt (i + 1)) (pushed cells k) (i + 1) bs)
         → StuckIf (rowFrom mode k cells i) (b ∷ bs) i
@@ -171,7 +171,7 @@ module _ (k : Cell) (i : ℕ) where
   field-stuck-end Return = now (mendOf Return) some (field-mends Return) (λ c rest other e. no-byte c rest e)
 
   module _ (mode : Mode) (b : ℕ) (bs : List ℕ) where
-    field-stuck-turn : (move : Move) → moveOf mode k b (i + 1) ≡ move
+    field-stuck-turn : (move : ByteMove) → moveOf mode k b (i + 1) ≡ move
         → ((m : Mode) (c : Cell) → FieldStuckIf (fieldFrom m c (i + 1)) bs (i + 1) (fieldFrom m c (i + 1) bs))
         → FieldStuckIf (fieldFrom mode k i) (b ∷ bs) i (afterMove move (λ m c. fieldFrom m c (i + 1) bs) (Next k (i + 1)) (Last k (i + 1)) (Fault i))
     unfolding fieldFrom

@@ -11,8 +11,8 @@ use Rattle.grammar.specs.declared.cut.Mode.{Mode}
 use Rattle.grammar.specs.declared.cut.Mode.the-variants.{Fresh, Bare, Open, Shut, Return}
 use Rattle.grammar.specs.declared.cut.Cell.{Cell}
 use Rattle.grammar.specs.declared.cut.Cells.{Cells}
-use Rattle.grammar.specs.declared.cut.Move.{Move}
-use Rattle.grammar.specs.declared.cut.Move.the-variants.{Go, NextField, RowEnd, Wrong}
+use Rattle.grammar.specs.declared.cut.ByteMove.{ByteMove}
+use Rattle.grammar.specs.declared.cut.ByteMove.the-variants.{Go, NextField, RowEnd, Wrong}
 use Rattle.grammar.specs.declared.cut.FieldCut.{FieldCut}
 use Rattle.grammar.specs.declared.cut.FieldCut.the-variants.{Next, Last, Fault}
 use Rattle.grammar.specs.declared.cut.RowCut.{RowCut}
@@ -53,7 +53,7 @@ pub record FieldThen (text behind : List ℕ) : Type 0 where
   pub text-is : text ≡ fieldText field ++ behind
 
 -- what has been read once a byte b has come, by what it did
-abbrev Moved : List ℕ → ℕ → Move → Type 0
+abbrev Moved : List ℕ → ℕ → ByteMove → Type 0
 Moved done b (Go mode k) = Part mode (done ++ (b ∷ []))
 Moved done b NextField = FieldThen (done ++ (b ∷ [])) (comma ∷ [])
 Moved done b RowEnd = FieldThen (done ++ (b ∷ [])) (cr ∷ lf ∷ [])
@@ -134,7 +134,7 @@ shift : (done : List ℕ) (b : ℕ) (bs : List ℕ) → (done ++ (b ∷ [])) ++ 
 shift done b bs = append-assoc done (b ∷ []) bs
 
 module _ (done : List ℕ) (b : ℕ) (bs : List ℕ) where
-  field-turn : (move : Move) (k : Cell) (i : ℕ) → Moved done b move
+  field-turn : (move : ByteMove) (k : Cell) (i : ℕ) → Moved done b move
       → ((m : Mode) (c : Cell) → Part m (done ++ (b ∷ [])) → FieldFound ((done ++ (b ∷ [])) ++ bs) (fieldFrom m c (i + 1) bs))
       → FieldFound (done ++ (b ∷ bs)) (afterMove move (λ m c. fieldFrom m c (i + 1) bs) (Next k (i + 1)) (Last k (i + 1)) (Fault i))
   field-turn (Go m c) k i p on = rw (shift done b bs) at (on m c p)
@@ -177,7 +177,7 @@ next-found bs NoRow h p = p
 next-found bs (Broken byte) h p = tt
 
 module _ (done : List ℕ) (b : ℕ) (bs : List ℕ) (cells : Cells) where
-  row-turn : (move : Move) (k : Cell) (i : ℕ) → Moved done b move
+  row-turn : (move : ByteMove) (k : Cell) (i : ℕ) → Moved done b move
       → ((m : Mode) (c : Cell) → Part m (done ++ (b ∷ [])) → RowFound ((done ++ (b ∷ [])) ++ bs) (rowFrom m c cells (i + 1) bs))
       → RowFound bs (rowFrom Fresh (emptyAt (i + 1)) (pushed cells k) (i + 1) bs)
       → RowFound (done ++ (b ∷ bs)) (afterMove move (λ m c. rowFrom m c cells (i + 1) bs) (rowFrom Fresh (emptyAt (i + 1)) (pushed cells k) (i + 1) bs) (Cut (pushed cells k) (i + 1)) (Broken i))

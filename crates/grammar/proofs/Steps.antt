@@ -9,11 +9,11 @@ use lib.ListN.{length, getD, drop, drop-of-length-le, length-drop}
 use lib.Seq.{drop-cons, drop-drop}
 use Rattle.grammar.specs.declared.cut.Mode.{Mode}
 use Rattle.grammar.specs.declared.cut.Cell.{Cell}
-use Rattle.grammar.specs.declared.cut.Move.{Move}
+use Rattle.grammar.specs.declared.cut.ByteMove.{ByteMove}
 use Rattle.grammar.specs.declared.cut.FieldCut.{FieldCut}
 use Rattle.grammar.specs.declared.cut.FieldCut.the-variants.{Next, Last, Fault}
 use Rattle.grammar.specs.declared.cut.Mode.the-variants.{Fresh, Bare, Open, Shut, Return}
-use Rattle.grammar.specs.declared.cut.Move.the-variants.{Go, NextField, RowEnd, Wrong}
+use Rattle.grammar.specs.declared.cut.ByteMove.the-variants.{Go, NextField, RowEnd, Wrong}
 use Rattle.grammar.specs.declared.cut.Cells.{Cells}
 use Rattle.grammar.specs.declared.cut.RowCut.{RowCut}
 use Rattle.grammar.specs.declared.cut.RowCut.the-variants.{Cut, NoRow, Broken}
@@ -37,7 +37,7 @@ module _ (s : List ℕ) (i : ℕ) (mode : Mode) (cell : Cell) where
   field-end h = rw (drop-of-length-le s h)
 
   -- the loop's turn: the answer from the start is what this byte's move says
-  pub field-turn : {answer : FieldCut} {move : Move} → answer ≡ fieldFrom mode cell i (drop i s) → i < length s
+  pub field-turn : {answer : FieldCut} {move : ByteMove} → answer ≡ fieldFrom mode cell i (drop i s) → i < length s
       → moveOf mode cell (getD s i 0) (i + 1) ≡ move
       → answer
       ≡ afterMove move (λ m c. fieldFrom m c (i + 1) (drop (i + 1) s)) (Next cell (i + 1)) (Last cell (i + 1)) (Fault i)
@@ -61,7 +61,7 @@ module _ (s : List ℕ) (cells : Cells) where
   ends Shut cell i = refl
   ends Return cell i = refl
 
-  turns : (move : Move) (cell : Cell) (i : ℕ) (bs : List ℕ) → bs ≡ drop (i + 1) s
+  turns : (move : ByteMove) (cell : Cell) (i : ℕ) (bs : List ℕ) → bs ≡ drop (i + 1) s
       → ((m : Mode) (c : Cell) → rowFrom m c cells (i + 1) bs ≡ rowAfter s cells (fieldFrom m c (i + 1) bs))
       → afterMove move (λ m c. rowFrom m c cells (i + 1) bs) (rowFrom Fresh (emptyAt (i + 1)) (pushed cells cell) (i + 1) bs) (Cut (pushed cells cell) (i + 1)) (Broken i)
       ≡ rowAfter s cells (afterMove move (λ m c. fieldFrom m c (i + 1) bs) (Next cell (i + 1)) (Last cell (i + 1)) (Fault i))
@@ -102,7 +102,7 @@ module _ (i n : ℕ) where
   field-wider (Last cell next) h = omega arith
   field-wider (Fault byte) h = omega arith
 
-  field-turns-in : (move : Move) (cell : Cell) (go : Mode → Cell → FieldCut) → ((m : Mode) (c : Cell) → FieldIn (go m c) (i + 1) (i + 1 + n))
+  field-turns-in : (move : ByteMove) (cell : Cell) (go : Mode → Cell → FieldCut) → ((m : Mode) (c : Cell) → FieldIn (go m c) (i + 1) (i + 1 + n))
       → FieldIn (afterMove move go (Next cell (i + 1)) (Last cell (i + 1)) (Fault i)) i (i + suc n)
   field-turns-in (Go m c) cell go more = field-wider (go m c) (more m c)
   field-turns-in NextField cell go more = omega arith
@@ -114,7 +114,7 @@ module _ (i n : ℕ) where
   row-wider NoRow h = h
   row-wider (Broken byte) h = omega arith
 
-  row-turns-in : (move : Move) (cells : Cells) (go : Mode → Cell → RowCut) (new : RowCut)
+  row-turns-in : (move : ByteMove) (cells : Cells) (go : Mode → Cell → RowCut) (new : RowCut)
       → ((m : Mode) (c : Cell) → RowIn (go m c) (i + 1) (i + 1 + n)) → RowIn new (i + 1) (i + 1 + n)
       → RowPast (afterMove move go new (Cut cells (i + 1)) (Broken i)) i (i + suc n)
   row-turns-in (Go m c) cells go new more last = row-wider (go m c) (more m c)

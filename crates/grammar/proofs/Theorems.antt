@@ -61,7 +61,7 @@ module _ (r : Row) (w : WrittenRow r) where
 
 -- A sheet has one list of rows.
 pub one-reading : {text : List ℕ} {rs ss : List Row} → Sheet text rs → Sheet text ss → rs ≡ ss
-one-reading a b = unique.sheet-unique a b
+one-reading a b = unique.rows-unique a b
 
 module _ (s : List ℕ) where
   -- The rows are counted whole exactly when the text is a sheet, and then they are its rows.

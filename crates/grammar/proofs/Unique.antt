@@ -19,7 +19,7 @@ no-cons : {b : ℕ} {x : List ℕ} → _≡_ {A = List ℕ} [] (b ∷ x) → ⊥
 no-cons e = let z : _≡_ {A = ℕ} 0 1 = cc in omega arith
 
 -- two pairs of parts, equal part by part
-pub record Same {A : Type 0} (x y : A) (t u : List ℕ) : Type 0 where
+pub record SameReading {A : Type 0} (x y : A) (t u : List ℕ) : Type 0 where
   pub first : x ≡ y
   pub behind : t ≡ u
 
@@ -33,7 +33,7 @@ quote-not nothing e = no-cons e
 quote-not a-comma e = let h : comma ≡ quote = cc in omega arith
 quote-not a-cr e = let h : cr ≡ quote = cc in omega arith
 
-bare-same : (c d : List ℕ) {t u : List ℕ} → AllPlain c → AllPlain d → Behind t → Behind u → c ++ t ≡ d ++ u → Same c d t u
+bare-same : (c d : List ℕ) {t u : List ℕ} → AllPlain c → AllPlain d → Behind t → Behind u → c ++ t ≡ d ++ u → SameReading c d t u
 bare-same [] [] p q bt bu e = record { first = refl; behind = e }
 bare-same [] (b ∷ d) p (more q qs) bt bu e = absurd (plain-not q bt e)
 bare-same (a ∷ c) [] (more p ps) q bt bu e = absurd (plain-not p bu (sym e))
@@ -60,8 +60,8 @@ closes b d t u false q bt e =
 
 module _ (a b : ℕ) (c d t u : List ℕ) where
   quoted-turn : (p q : Bool) → eqb a quote ≡ p → eqb b quote ≡ q
-      → (escape c ++ (quote ∷ t) ≡ escape d ++ (quote ∷ u) → Same c d t u)
-      → escape (a ∷ c) ++ (quote ∷ t) ≡ escape (b ∷ d) ++ (quote ∷ u) → Same (a ∷ c) (b ∷ d) t u
+      → (escape c ++ (quote ∷ t) ≡ escape d ++ (quote ∷ u) → SameReading c d t u)
+      → escape (a ∷ c) ++ (quote ∷ t) ≡ escape (b ∷ d) ++ (quote ∷ u) → SameReading (a ∷ c) (b ∷ d) t u
   unfolding escape
   quoted-turn true true p q on e =
       let e′ : quote ∷ a ∷ escape c ++ (quote ∷ t) ≡ quote ∷ b ∷ escape d ++ (quote ∷ u) = rw (p, q) at e in
@@ -78,7 +78,7 @@ module _ (a b : ℕ) (c d t u : List ℕ) where
       let s = on (cc) in
       record { first = ap₂ (λ (x : ℕ) (l : List ℕ). x ∷ l) (cc) (s .first); behind = s .behind }
 
-quoted-same : (c d : List ℕ) {t u : List ℕ} → Behind t → Behind u → escape c ++ (quote ∷ t) ≡ escape d ++ (quote ∷ u) → Same c d t u
+quoted-same : (c d : List ℕ) {t u : List ℕ} → Behind t → Behind u → escape c ++ (quote ∷ t) ≡ escape d ++ (quote ∷ u) → SameReading c d t u
 unfolding escape
 quoted-same [] [] {t} {u} bt bu e =
     let e′ : quote ∷ t ≡ quote ∷ u = e in
@@ -87,7 +87,7 @@ quoted-same [] (b ∷ d) {t} {u} bt bu e = absurd (closes b d t u (eqb b quote) 
 quoted-same (a ∷ c) [] {t} {u} bt bu e = absurd (closes a c u t (eqb a quote) refl bu (sym e))
 quoted-same (a ∷ c) (b ∷ d) {t} {u} bt bu e = quoted-turn a b c d t u (eqb a quote) (eqb b quote) refl refl (λ h. quoted-same c d bt bu h) e
 
-field-same : (f g : Field) {t u : List ℕ} → Written f → Written g → Behind t → Behind u → fieldText f ++ t ≡ fieldText g ++ u → Same f g t u
+field-same : (f g : Field) {t u : List ℕ} → Written f → Written g → Behind t → Behind u → fieldText f ++ t ≡ fieldText g ++ u → SameReading f g t u
 unfolding fieldText
 field-same (bare c) (bare d) (is-bare p) (is-bare q) bt bu e =
     let s = bare-same c d p q bt bu e in
@@ -113,7 +113,7 @@ comma-not : {t x : List ℕ} → RowBehind t → t ≡ comma ∷ x → ⊥
 comma-not at-end e = no-cons e
 comma-not at-cr e = let h : cr ≡ comma = cc in omega arith
 
-row-same : (r s : Row) {t u : List ℕ} → WrittenRow r → WrittenRow s → RowBehind t → RowBehind u → rowText r ++ t ≡ rowText s ++ u → Same r s t u
+row-same : (r s : Row) {t u : List ℕ} → WrittenRow r → WrittenRow s → RowBehind t → RowBehind u → rowText r ++ t ≡ rowText s ++ u → SameReading r s t u
 unfolding rowText
 row-same (only f) (only g) (written-only v) (written-only w) bt bu e =
     let h = field-same f g v w (behind-row bt) (behind-row bu) e in
@@ -129,7 +129,7 @@ row-same (f then r) (g then s) {t} {u} (written-then v vs) (written-then w ws) b
     record { first = ap₂ _then_ (h .first) (k .first); behind = k .behind }
 
 -- the row at the front of a text, and what is behind it, are fixed by the text
-pub row-unique : {text text′ : List ℕ} {r s : Row} {t u : List ℕ} → RowAt text r t → RowAt text′ s u → text ≡ text′ → Same r s t u
+pub row-unique : {text text′ : List ℕ} {r s : Row} {t u : List ℕ} → RowAt text r t → RowAt text′ s u → text ≡ text′ → SameReading r s t u
 row-unique {t = t} {u = u} (ended v e) (ended w e′) h =
     let k = row-same _ _ v w at-cr at-cr (sym e ∙ h ∙ e′) in
     let b : cr ∷ lf ∷ t ≡ cr ∷ lf ∷ u = k .behind in
@@ -160,5 +160,5 @@ sheet-same (row a s) (row a′ s′) h =
     ap₂ (λ (x : Row) (l : List Row). x ∷ l) (k .first) (sheet-same s s′ (k .behind))
 
 -- a sheet has one list of rows
-pub sheet-unique : {text : List ℕ} {rs ss : List Row} → Sheet text rs → Sheet text ss → rs ≡ ss
-sheet-unique s s′ = sheet-same s s′ refl
+pub rows-unique : {text : List ℕ} {rs ss : List Row} → Sheet text rs → Sheet text ss → rs ≡ ss
+rows-unique s s′ = sheet-same s s′ refl

@@ -18,7 +18,7 @@ use Rattle.grammar.specs.Rows.{Rows, onRow, rowsFrom, countFrom, countRo
 use Rattle.grammar.specs.Rows
 use Rattle.grammar.specs.Meaning.{SheetOf, BrokenRow, BrokenAfter, FirstFault}
 use Rattle.grammar.proofs.Found.{in-fresh, row-crlf, row-sheet, RowFound, row-found}
-use Rattle.grammar.proofs.Unique.{row-unique, no-row-at, sheet-unique}
+use Rattle.grammar.proofs.Unique.{row-unique, no-row-at, rows-unique}
 use Rattle.grammar.proofs.Faults.{EndsAt, Some, some, Stuck, row-stuck, front-longer}
 use Rattle.grammar.proofs.Steps.{cut-within}
 use Rattle.grammar.proofs.Reading.{cut-there, rows-next}
@@ -110,7 +110,7 @@ module _ (s : List ℕ) where
   unfolding countRows
   all-counted (is-sheet rs h c) n = (
     (λ e. record { rows = rs; is = h; count = let q = c 0 in let z : 0 + length rs ≡ n = cc in omega arith }),
-    (λ o. c 0 ∙ ap All (let q = ap length (sheet-unique h (o .is)) in let k = o .count in omega arith)),
+    (λ o. c 0 ∙ ap All (let q = ap length (rows-unique h (o .is)) in let k = o .count in omega arith)),
   )
   all-counted (is-broken rs stop byte l b c) n = (
     (λ e. let q = c 0 in let z : _≡_ {A = ℕ} 0 1 = cc in absurd (omega arith)),

@@ -13,7 +13,7 @@ use Rattle.grammar.specs.declared.cut.Mode.{Mode}
 use Rattle.grammar.specs.declared.cut.Mode.the-variants.{Fresh, Bare, Open, Shut}
 use Rattle.grammar.specs.declared.cut.Cell.{Cell}
 use Rattle.grammar.specs.declared.cut.Cells.{Cells}
-use Rattle.grammar.specs.declared.cut.Move.the-variants.{Go}
+use Rattle.grammar.specs.declared.cut.ByteMove.the-variants.{Go}
 use Rattle.grammar.specs.declared.cut.FieldCut.the-variants.{Next, Last}
 use Rattle.grammar.specs.declared.cut.RowCut.the-variants.{Cut}
 use Rattle.grammar.specs.Grammar.{quote, comma, cr, lf, Plain, AllPlain, none, more, Field, bare, quoted, Written, is-bare, escape, fieldText, Row, only, _then_, WrittenRow, written-only, written-then, rowText}
@@ -77,11 +77,11 @@ modeAfter (bare (b ∷ c)) = Bare
 modeAfter (quoted c) = Shut
 
 -- a cutter goes on as the moves say
-pub record Steps {A : Type 0} (F : Mode → Cell → ℕ → List ℕ → A) : Type 0 where
+pub record GoesByMoves {A : Type 0} (F : Mode → Cell → ℕ → List ℕ → A) : Type 0 where
   pub step : (mode : Mode) (k : Cell) (i b : ℕ) (bs : List ℕ) (m : Mode) (c : Cell) → moveOf mode k b (i + 1) ≡ Go m c
       → F mode k i (b ∷ bs) ≡ F m c (i + 1) bs
 
-module _ {A : Type 0} {F : Mode → Cell → ℕ → List ℕ → A} (steps : Steps F) where
+module _ {A : Type 0} {F : Mode → Cell → ℕ → List ℕ → A} (steps : GoesByMoves F) where
   bare-run : (a i : ℕ) (c t : List ℕ) → AllPlain c → F Bare (cell a i false) i (c ++ t) ≡ F Bare (cell a (i + length c) false) (i + length c) t
   bare-run a i [] t none = rw add-zero
   bare-run a i (b ∷ c) t (more p ps) =
@@ -124,11 +124,11 @@ module _ {A : Type 0} {F : Mode → Cell → ℕ → List ℕ → A} (steps : St
       ∙ steps .step Open (cell (i + 1) (i + 1 + length (escape c)) (doubledBy false c)) (i + 1 + length (escape c)) quote t _ _ (open-quote _ _)
       ∙ rw (n, doubled-holds c)
 
-pub field-steps : Steps fieldFrom
+pub field-steps : GoesByMoves fieldFrom
 unfolding fieldFrom
 field-steps = record { step = λ mode k i b bs m c e. rw e }
 
-pub row-steps : (cells : Cells) → Steps (λ mode k i bs. rowFrom mode k cells i bs)
+pub row-steps : (cells : Cells) → GoesByMoves (λ mode k i bs. rowFrom mode k cells i bs)
 unfolding rowFrom
 row-steps cells = record { step = λ mode k i b bs m c e. rw e }
 

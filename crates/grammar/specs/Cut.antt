@@ -8,8 +8,8 @@ use Rattle.grammar.specs.Grammar.{quote, comma, cr, lf}
 use Rattle.grammar.specs.declared.cut.Mode.{Mode}
 use Rattle.grammar.specs.declared.cut.Mode.the-variants.{Fresh, Bare, Open, Shut, Return}
 use Rattle.grammar.specs.declared.cut.Cell.{Cell}
-use Rattle.grammar.specs.declared.cut.Move.{Move}
-use Rattle.grammar.specs.declared.cut.Move.the-variants.{Go, NextField, RowEnd, Wrong}
+use Rattle.grammar.specs.declared.cut.ByteMove.{ByteMove}
+use Rattle.grammar.specs.declared.cut.ByteMove.the-variants.{Go, NextField, RowEnd, Wrong}
 use Rattle.grammar.specs.declared.cut.FieldCut.{FieldCut}
 use Rattle.grammar.specs.declared.cut.FieldCut.the-variants.{Next, Last, Fault}
 use Rattle.grammar.specs.declared.cut.Cells.{Cells}
@@ -25,13 +25,13 @@ abbrev pub upTo : Cell → ℕ → Bool → Cell
 upTo cell next doubled = record { start = cell .start; end = next; doubled = doubled }
 
 -- what a byte does in each mode; the byte behind it is at `next`
-unfoldable pub bareMove : Cell → ℕ → ℕ → Move
+unfoldable pub bareMove : Cell → ℕ → ℕ → ByteMove
 bareMove cell b next = cond (eqb b comma) NextField (cond (eqb b cr) (Go Return cell) (cond (eqb b lf) Wrong (Go Bare (upTo cell next false))))
 
-unfoldable pub shutMove : Cell → ℕ → ℕ → Move
+unfoldable pub shutMove : Cell → ℕ → ℕ → ByteMove
 shutMove cell b next = cond (eqb b quote) (Go Open (upTo cell next true)) (cond (eqb b comma) NextField (cond (eqb b cr) (Go Return cell) Wrong))
 
-unfoldable pub moveOf : Mode → Cell → ℕ → ℕ → Move
+unfoldable pub moveOf : Mode → Cell → ℕ → ℕ → ByteMove
 moveOf Fresh cell b next = cond (eqb b quote) (Go Open (emptyAt next)) (bareMove cell b next)
 moveOf Bare cell b next = cond (eqb b quote) Wrong (bareMove cell b next)
 moveOf Open cell b next = cond (eqb b quote) (Go Shut cell) (Go Open (upTo cell next (cell .doubled)))
@@ -46,7 +46,7 @@ endOf Open cell len = Fault len
 endOf Shut cell len = Last cell len
 endOf Return cell len = Fault len
 
-abbrev pub afterMove {ℓ} : {A : Type ℓ} → Move → (Mode → Cell → A) → A → A → A → A
+abbrev pub afterMove {ℓ} : {A : Type ℓ} → ByteMove → (Mode → Cell → A) → A → A → A → A
 afterMove (Go mode cell) go next last wrong = go mode cell
 afterMove NextField go next last wrong = next
 afterMove RowEnd go next last wrong = last

@@ -23,7 +23,7 @@ pub struct Cell {
 }
 
 // What a byte does.
-pub enum Move {
+pub enum ByteMove {
     // the field goes on, in this mode and with this cell
     Go(Mode, Cell),
     // the field ends, and another follows in the row

@@ -7,9 +7,9 @@ use native.Mathlib.Omega.{arith}
 use borrow.Author.Tests.{eq-eqb, eqb-true}
 use lib.ListN.{getD}
 use Rattle.tables.specs.Below.{leastBelow, isNothing}
-use Rattle.told.specs.declared.Found.{Found}
-use Rattle.told.specs.declared.Found.the-variants.{At, Nothing}
-use Rattle.tables.proofs.Laws.{and-left, and-right, and-both, clash, least-none, none-least, least-at, at-least, denied as untrue}
+use Rattle.findings.specs.declared.Found.{Found}
+use Rattle.findings.specs.declared.Found.the-variants.{At, Nothing}
+use Rattle.tables.proofs.Laws.{and-left, and-right, and-both, clash, least-none, none-least, least-at, at-least, not-so as untrue}
 use Rattle.phases.specs.Phase.{grants}
 use Rattle.granting.specs.Grants.{GrantAt, grantsTo, grantOf, hasGrant}
 

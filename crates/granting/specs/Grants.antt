@@ -7,7 +7,7 @@ use lib.ListN.{getD}
 use lib.Dec.{eqb}
 use Rattle.tables.specs.Tables.{andAlso}
 use Rattle.tables.specs.Below.{leastBelow, isNothing}
-use Rattle.told.specs.declared.Found.{Found}
+use Rattle.findings.specs.declared.Found.{Found}
 use Rattle.phases.specs.Phase.{grants}
 
 -- door d is one of n doors and holds a grant of person p

@@ -6,10 +6,10 @@ ghost use Rattle.tables.specs.Tables.{plan};
 ghost use Rattle.granting.specs.Grants.{grantsTo, grantOf, hasGrant};
 ghost use Rattle.granting.specs.Reasons.{firstReason};
 use door_fits::grants;
+use findings::Found;
 use lists::byte_at;
 use lists::word_at;
 use phases::answer::Reason;
-use told::Found;
 
 // Does this door hold a grant of this person?
 fn grants_to<'a>(phase: &'a [u8], holder: &'a [u16], person: usize, door: usize) -> bool

@@ -3,10 +3,10 @@
 // reading and writing.
 use blank_lists::blank_panel_text;
 use blank_lists::blank_sheet;
-use outside::write_text;
+use findings::Printed;
+use program_io::write_text;
 use run::texts::panel_text;
 use sheet_files::read_asked;
-use told::Printed;
 
 fn main() {
     let mut site = blank_sheet();

@@ -21,6 +21,7 @@ use Rattle.granting.specs.Grants.{grantsTo, grantOf, hasGrant}
 use Rattle.record.specs.Sound.{Sound}
 use Rattle.door_does.specs.Does.{effect}
 use Rattle.granting.specs.Reasons.{firstReason}
+use Rattle.deeds.specs.Deeds.{existAmong}
 use Rattle.record.specs.Steps.{act, exist, soundStep}
 use Rattle.record.specs.SoundTest.{soundB}
 use Rattle.record.specs.Questions.{wayAnswerOf, wayWritten}
@@ -30,7 +31,7 @@ use Rattle.record.proofs.Laws.{sound-steps, sound-stays, shaped-stays, run-soun
 use Rattle.record.proofs.Tells.{sound-tells}
 use Rattle.grammar.specs.Cut.{bareMove, shutMove, moveOf, endOf, fieldFrom, pushed, rowFrom, cutRow}
 use Rattle.grammar.specs.Rows.{readRows, rowsFrom}
-use Rattle.saying.specs.Say.{valueFrom, digitsFrom, needlessZero, numberIn, contentAt, sameBytes, isWord, placeIn, placeAmong, namedFrom, saysWords, numberAt}
+use Rattle.cell_meaning.specs.Say.{valueFrom, digitsFrom, needlessZero, numberIn, contentAt, sameBytes, isWord, placeIn, placeAmong, namedFrom, saysWords, numberAt}
 use Rattle.asked_way.specs.{wayNo, lengthTold}
 use Rattle.verdict.specs.Numbers.{verdictNo, firstPlace, secondPlace}
 use Rattle.verdict.specs.declared.Verdict.{Verdict}
@@ -92,7 +93,7 @@ steps : (reasonAt 1 (cardAt 0 0 ∷ stepAt Decide 0 ∷ stepAt Green 0 ∷ stepA
     × (phaseAt 1 (goesThrough 0 0 (cardAt 1 0 ∷ stepAt Decide 1 ∷ [])) ≡ granted)
     × (placeAfter 1 (goesThrough 0 1 []) ≡ 1)
     × (placeAfter 0 (goesThrough 0 0 []) ≡ 1)
-unfolding soundLast soundStep firstReason effect act exist allows hasGrant grantOf leastBelow orAt grantsTo grants mayBe andAlso orElse zeros ticked
+unfolding soundLast soundStep firstReason effect act existAmong allows hasGrant grantOf leastBelow orAt grantsTo grants mayBe andAlso orElse zeros ticked
 steps = (reason-here 1 _, reason-here 1 _, reason-here 3 _, phase-here 0 _, phase-here 0 _, phase-here 1 _, place-here 1 _, place-here 0 _)
 
 -- ---- the whole run
@@ -113,11 +114,11 @@ sound-heard (row ∷ rows) r sh s =
     ∙ ap (λ (x : Step). lineOf row x ∷ soundHeard (x .next) rows) (sound-steps r (row .kind) (row .at) (row .person) sh s)
 
 pub whole-run : heardOf freshSite (rowsHeard runOf01) ≡ runOf01
-unfolding soundHeard rowsHeard soundStep firstReason effect act exist allows hasGrant grantOf leastBelow orAt grantsTo grants mayBe andAlso orElse zeros
+unfolding soundHeard rowsHeard soundStep firstReason effect act existAmong allows hasGrant grantOf leastBelow orAt grantsTo grants mayBe andAlso orElse zeros
 whole-run = sound-heard (rowsHeard runOf01) freshSite (fresh .shaped) (fresh .sound) ∙ ap (λ (x : Record). soundHeard x (rowsHeard runOf01)) (sheets .6)
 
 pub whole-run-places : (getD (lastOf freshSite (rowsHeard runOf01) .place) 0 0 ≡ 1) × (getD (lastOf freshSite (rowsHeard runOf01) .place) 1 0 ≡ 0)
-unfolding soundLast rowsHeard soundStep firstReason effect act exist allows hasGrant grantOf leastBelow orAt grantsTo grants mayBe andAlso orElse zeros
+unfolding soundLast rowsHeard soundStep firstReason effect act existAmong allows hasGrant grantOf leastBelow orAt grantsTo grants mayBe andAlso orElse zeros
 whole-run-places =
     (ap (λ (x : Record). getD (x .place) 0 0) (last-here (rowsHeard runOf01)), ap (λ (x : Record). getD (x .place) 1 0) (last-here (rowsHeard runOf01)))
 

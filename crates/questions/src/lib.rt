@@ -13,11 +13,11 @@ ghost use Rattle.record.specs.Questions.{wayFound, wayAnswerOf, wayWritten, way
 use asked_grant::GrantAnswer;
 use asked_place::PlaceAnswer;
 use asked_way::WayAnswer;
+use findings::Found;
+use findings::WayTold;
 use granting::grant_of;
 use lists::byte_at;
 use record::Record;
-use told::Found;
-use told::WayTold;
 
 // The answer where this door, or none, was found.
 fn grant_told(found: Found) -> GrantAnswer
@@ -82,5 +82,5 @@ pub fn way_out(held: Record, location: usize, list: &mut [u8]) -> WayAnswer
     if held.locations <= location {
         return WayAnswer::NoSuch;
     }
-    way_told(rules::way_out(held.locations, &held.exit, location, list))
+    way_told(rules::way_by_exits(held.locations, &held.exit, location, list))
 }

@@ -27,8 +27,8 @@ use Rattle.reader.proofs.Reader as T
 use Rattle.reader.proofs.Reader.Laws as T′
 
 -- the struct, its type and its laws, over a signature's one lifetime
-abbrev pub Row : Lfts 1 → RattleType
-Row κs = T.the-row (namedLft 1 0 tt κs)
+abbrev pub ReaderRow : Lfts 1 → RattleType
+ReaderRow κs = T.the-row (namedLft 1 0 tt κs)
 
 abbrev pub Type-of : Lfts 1 → Declared
 Type-of κs = T.the-type (namedLft 1 0 tt κs)
@@ -37,21 +37,21 @@ abbrev pub laws-of : (κs : Lfts 1) → LL.Laws (Type-of κs)
 laws-of κs = T′.the-laws (namedLft 1 0 tt κs)
 
 -- the machine values of a reader's sheet and place
-abbrev pub fields : Reader → List Val × (List Val × Unit {0})
-fields d = (sliceVal (d .sheet .ptr) (length (d .sheet .now)) ∷ [], (vint w64 (d .at) ∷ [], tt))
+abbrev pub readerFields : Reader → List Val × (List Val × Unit {0})
+readerFields d = (sliceVal (d .sheet .ptr) (length (d .sheet .now)) ∷ [], (vint w64 (d .at) ∷ [], tt))
 
 -- what a reader owns, and what its sheet and its place own where a function takes the two
 abbrev pub Own : Lft → Reader → Fml
-Own κ d = Row (κ, tt) .own d (T′.lowered d ∷ [])
+Own κ d = ReaderRow (κ, tt) .own d (T′.lowered d ∷ [])
 
 abbrev pub OwnFields : Lft → Reader → Fml
-OwnFields κ d = owns (ShrSlice (named 0) κ u8 ∷ usize ∷ []) (d .sheet, (d .at, tt)) (fields d)
+OwnFields κ d = owns (ShrSlice (named 0) κ u8 ∷ usize ∷ []) (d .sheet, (d .at, tt)) (readerFields d)
 
 abbrev OwnSheet : Lft → Reader → Fml
-OwnSheet κ d = ShrSlice (named 0) κ u8 .own (d .sheet) (fields d .0)
+OwnSheet κ d = ShrSlice (named 0) κ u8 .own (d .sheet) (readerFields d .0)
 
 abbrev OwnPlace : Reader → Fml
-OwnPlace d = usize .own (d .at) (fields d .1 .0)
+OwnPlace d = usize .own (d .at) (readerFields d .1 .0)
 
 module _ {M : Type 1} (𝓤 : URA M) (H : Heap 𝓤) (A : Atoms 𝓤) (W : Given 𝓤 H A) (κ : Lft) (d : Reader) where
   -- a reader may be copied
@@ -62,8 +62,8 @@ module _ {M : Type 1} (𝓤 : URA M) (H : Heap 𝓤) (A : Atoms 𝓤) (W : Given
   pub fields-twice : ent 𝓤 (sem 𝓤 H A (OwnFields κ d)) (sep 𝓤 (sem 𝓤 H A (OwnFields κ d)) (sem 𝓤 H A (OwnFields κ d)))
   fields-twice =
       qed W (‵ (OwnFields κ d) ∷ []) ∵
-      fsplit ! $ use1 W (‵ (OwnSheet κ d) ⊛ ‵ (OwnSheet κ d)) (shr-slice-copy 𝓤 H A W (named 0) κ u8 .twice (d .sheet) (fields d .0)) $ split ! $
-      move ! (2 ∷ []) $ fsplit ! $ use1 W (‵ (OwnPlace d) ⊛ ‵ (OwnPlace d)) (uint-copy 𝓤 H A W w64 .twice (d .at) (fields d .1 .0)) $ split ! $
+      fsplit ! $ use1 W (‵ (OwnSheet κ d) ⊛ ‵ (OwnSheet κ d)) (shr-slice-copy 𝓤 H A W (named 0) κ u8 .twice (d .sheet) (readerFields d .0)) $ split ! $
+      move ! (2 ∷ []) $ fsplit ! $ use1 W (‵ (OwnPlace d) ⊛ ‵ (OwnPlace d)) (uint-copy 𝓤 H A W w64 .twice (d .at) (readerFields d .1 .0)) $ split ! $
       -- [the place; the place; true; the sheet; the sheet]
       move ! (0 ∷ 2 ∷ []) $ fjoin ! $ move ! (2 ∷ 0 ∷ []) $ fjoin ! $ frame ! $
       nothing ! $ move ! (1 ∷ 0 ∷ []) $ fjoin ! $ move ! (1 ∷ 0 ∷ []) $ fjoin ! $ done !
@@ -76,9 +76,9 @@ module _ {M : Type 1} (𝓤 : URA M) (H : Heap 𝓤) (A : Atoms 𝓤) (W : Given
   asked q = qed W ((‵ (flft κ q) ⊛ ‵ ftrue) ∷ ‵ (OwnFields κ d) ∷ []) ∵ join ! $ frame ! $ done !
 
   -- a function that was passed a reader alone has it, and what the reader owns is kept
-  pub apart : (q : Share) → ent 𝓤 (⋆ 𝓤 H A ((‵ (flft κ q) ⊛ ‵ ftrue) ∷ ‵ (owns (Row (κ, tt) ∷ []) (d, tt) (T′.lowered d ∷ [], tt)) ∷ [])) (sep 𝓤 (Asked q) (sem 𝓤 H A (Own κ d)))
+  pub apart : (q : Share) → ent 𝓤 (⋆ 𝓤 H A ((‵ (flft κ q) ⊛ ‵ ftrue) ∷ ‵ (owns (ReaderRow (κ, tt) ∷ []) (d, tt) (T′.lowered d ∷ [], tt)) ∷ [])) (sep 𝓤 (Asked q) (sem 𝓤 H A (Own κ d)))
   apart q =
-      qed W ((‵ (flft κ q) ⊛ ‵ ftrue) ∷ ‵ (owns (Row (κ, tt) ∷ []) (d, tt) (T′.lowered d ∷ [], tt)) ∷ []) ∵
+      qed W ((‵ (flft κ q) ⊛ ‵ ftrue) ∷ ‵ (owns (ReaderRow (κ, tt) ∷ []) (d, tt) (T′.lowered d ∷ [], tt)) ∷ []) ∵
       move ! (1 ∷ []) $ fsplit ! $ move ! (1 ∷ []) $ drop ! $ use1 W (‵ (Own κ d) ⊛ ‵ (Own κ d)) twice $ split ! $
       use1 W (given (T′.lowered d ∷ [] ≡ T′.lowered d ∷ []) (‵ (all-own (Type-of (κ, tt) .parts) (laws-of (κ, tt)) (d .sheet, (d .at, tt))))) (own-open 𝓤 H A W (Type-of (κ, tt)) (laws-of (κ, tt)) (d .sheet, (d .at, tt)) (T′.lowered d)) $ learn ! (λ _.
       -- [what the fields own; what the reader owns; the token]

@@ -8,10 +8,10 @@ use lib.ListN.{length, getD}
 use lib.Dec.{ltb, leb}
 use Rattle.numbers.specs.Numbers.{doneNo, noSuchNo, unsoundNo}
 use Rattle.tables.specs.Way.{wayOf, wayToldIn, ifRoom}
-use Rattle.told.specs.Told.{wayToldNo}
-use Rattle.told.specs.declared.Found.{Found}
-use Rattle.told.specs.declared.Found.the-variants as found
-use Rattle.told.specs.declared.WayTold.the-variants as way
+use Rattle.findings.specs.Told.{wayToldNo}
+use Rattle.findings.specs.declared.Found.{Found}
+use Rattle.findings.specs.declared.Found.the-variants as found
+use Rattle.findings.specs.declared.WayTold.the-variants as way
 use Rattle.granting.specs.Grants.{grantOf}
 use Rattle.record.specs.declared.record.Record.{Record}
 use Rattle.asked_place.specs.declared.PlaceAnswer.{PlaceAnswer}

@@ -49,7 +49,7 @@ chosen r d true false deed = refl
 chosen r d false allowed deed = refl
 
 pub judged-step : (r : Record) (k : Kind) (d p : ℕ) → length (r .place) ≡ mostPeople → Sound r → carried r d (judged r k d p) ≡ soundStep r k d p
-unfolding judgedOf lists.existAmong exist soundStep
+unfolding judgedOf lists.existAmong soundStep
 judged-step r k d p long s =
     let people : r .people ≤ mostPeople = let most = s .tables .in-range .people-to in omega arith in
     rw (le-ltb mostPeople (r .people) people, table-allows k (getD (r .phase) d 0) (known r s d))

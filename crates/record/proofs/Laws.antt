@@ -45,6 +45,7 @@ use Rattle.phases.specs.Kinds.{StepRow, allows, namesPerson}
 use Rattle.door_does.specs.declared.Does.{Does}
 use Rattle.door_does.specs.declared.Does.the-variants.{Stays, Turns, Moves}
 use Rattle.door_does.specs.Does.{burns, effect}
+use Rattle.deeds.specs.Deeds.{existAmong}
 use Rattle.record.specs.Steps.{reasonFor, Admitted, First, act, refused, exist, doing, soundStep, stepOf}
 use Rattle.record.specs.Run.{rowOf, lastOf}
 use Rattle.record.specs.Lights.{isTick, ticks, Each, end, step, NoGreenNoWalk, NoRed}
@@ -73,7 +74,7 @@ pub record Allowed (r : Record) (k : Kind) (d p : ℕ) : Type 0 where
 -- what holds of every refusal and of every step that is done holds of each step
 pub step-cases : (P : Step → Type 0) (r : Record) (k : Kind) (d p : ℕ) → ((a : Answer) (ph : ℕ) → (a ≡ Done → ⊥) → P (refused r a ph))
     → (Allowed r k d p → P (act r d (doing r k d p))) → P (stepOf r k d p)
-unfolding stepOf soundStep exist orElse
+unfolding stepOf soundStep existAmong orElse
 step-cases P r k d p no-way done =
     either P (soundB r)
     (λ s.
@@ -99,7 +100,7 @@ done-did r k d p =
 
 -- .. and every step that may be done is
 pub allowed-does : (r : Record) (k : Kind) (d p : ℕ) → Allowed r k d p → stepOf r k d p ≡ act r d (doing r k d p)
-unfolding stepOf soundStep exist orElse
+unfolding stepOf soundStep existAmong orElse
 allowed-does r k d p w = rw (w .tested, there, w .allowed)
   where
     person : (b : Bool) → namesPerson k ≡ b → orElse (not b) (ltb p (r .people)) ≡ true
@@ -252,10 +253,10 @@ becomes c Stays = c
 becomes c (Turns x why) = x
 becomes c (Moves x) = x
 
-abbrev pub tells : Does → ℕ
-tells Stays = 0
-tells (Turns x why) = why
-tells (Moves x) = 0
+abbrev pub reasonIn : Does → ℕ
+reasonIn Stays = 0
+reasonIn (Turns x why) = why
+reasonIn (Moves x) = 0
 
 act-door : (r : Record) → Shaped r → (d : ℕ) → d < mostDoors → (x : Does) → doorOf (act r d x .next) d ≡ becomes (doorOf r d) x
 unfolding act
@@ -263,7 +264,7 @@ act-door r sh d h Stays = refl
 act-door r sh d h (Turns c why) = put-same r sh d c h
 act-door r sh d h (Moves c) = put-same r sh d c h
 
-act-tells : (r : Record) (d : ℕ) (x : Does) → act r d x .reason ≡ tells x
+act-tells : (r : Record) (d : ℕ) (x : Does) → act r d x .reason ≡ reasonIn x
 unfolding act
 act-tells r d Stays = refl
 act-tells r d (Turns c why) = refl
@@ -292,30 +293,30 @@ pub record HeldOn (before after : Door) : Type 0 where
   pub kept : keeps (after .phase) ≡ true
   pub same : after .holder ≡ before .holder
 
-gone : (k : Kind) (p why n : ℕ) (c : Door) → tells (effect k p why c) ≡ n → Ends k n → Left (becomes c (effect k p why c))
+gone : (k : Kind) (p why n : ℕ) (c : Door) → reasonIn (effect k p why c) ≡ n → Ends k n → Left (becomes c (effect k p why c))
 unfolding effect keeps andAlso
 gone k p why n c e passing = record { nobody = refl; dropped = refl }
 gone k p why n c e lapsing = record { nobody = refl; dropped = refl }
 gone k p why n c e (denial some) =
-    either (λ x. tells x ≡ n → Left (becomes c x)) (eqb why 0) (λ _ z. absurd (some (sym z))) (λ _ _. record { nobody = refl; dropped = refl }) e
+    either (λ x. reasonIn x ≡ n → Left (becomes c x)) (eqb why 0) (λ _ z. absurd (some (sym z))) (λ _ _. record { nobody = refl; dropped = refl }) e
 
 -- the held person leaves the door at `passed`, `lapsed` and a denial ..
 pub leaves : (r : Record) (k : Kind) (d p n : ℕ) → Shaped r → Sound r → stepOf r k d p .answer ≡ Done → stepOf r k d p .reason ≡ n → Ends k n
     → Left (doorOf (stepOf r k d p .next) d)
 leaves r k d p n sh s e why ends =
-    let told : stepOf r k d p .reason ≡ tells (doing r k d p) = rw (done-did r k d p e .1) (act-tells r d (doing r k d p)) in
+    let told : stepOf r k d p .reason ≡ reasonIn (doing r k d p) = rw (done-did r k d p e .1) (act-tells r d (doing r k d p)) in
     subst Left (sym (door-after r k d p sh s e)) (gone k p (reasonFor r d (getD (r .holder) d 0)) n (doorOf r d) (sym told ∙ why) ends)
 
 -- a phase that is one of two, or one, in which nobody is kept
 out : {A : Type 0} (ph a : ℕ) → keeps a ≡ false → eqb ph a ≡ true → keeps ph ≡ true → A
 out ph a no-one e k = clash k (rw (eqb-true ph a e) no-one)
 
-here : (k : Kind) (p why : ℕ) (c : Door) → allows k (c .phase) ≡ true → keeps (c .phase) ≡ true → (Ends k (tells (effect k p why c)) → ⊥)
+here : (k : Kind) (p why : ℕ) (c : Door) → allows k (c .phase) ≡ true → keeps (c .phase) ≡ true → (Ends k (reasonIn (effect k p why c)) → ⊥)
     → HeldOn c (becomes c (effect k p why c))
 unfolding effect allows keeps andAlso
 here Card p why c e k on = out (c .phase) free refl e k
 here Decide p why c e k on =
-    either (λ x. (Ends Decide (tells x) → ⊥) → HeldOn c (becomes c x)) (eqb why 0) (λ _ _. record { kept = refl; same = refl })
+    either (λ x. (Ends Decide (reasonIn x) → ⊥) → HeldOn c (becomes c x)) (eqb why 0) (λ _ _. record { kept = refl; same = refl })
     (λ z no-end. absurd (no-end (denial (eqb-false why 0 z)))) on
 here Green p why c e k on = record { kept = refl; same = refl }
 here Red p why c e k on = ⊎-elim (λ q. clash k (rw q refl)) (λ q. clash k (rw q refl)) (one-of (c .phase) denied red e)
@@ -335,7 +336,7 @@ pub holds-on : (r : Record) (k : Kind) (d p : ℕ) → Shaped r → Sound r → 
     → (Ends k (stepOf r k d p .reason) → ⊥) → HeldOn (doorOf r d) (doorOf (stepOf r k d p .next) d)
 holds-on r k d p sh s e kept on =
     let w = done-did r k d p e in
-    let told : stepOf r k d p .reason ≡ tells (doing r k d p) = rw (w .1) (act-tells r d (doing r k d p)) in
+    let told : stepOf r k d p .reason ≡ reasonIn (doing r k d p) = rw (w .1) (act-tells r d (doing r k d p)) in
     subst (HeldOn (doorOf r d)) (sym (door-after r k d p sh s e))
     (here k p (reasonFor r d (getD (r .holder) d 0)) (doorOf r d) (w .0 .allowed) kept (rw told at on))
 
@@ -370,7 +371,7 @@ barred-stays r k d p e = refused-stays r k d p (λ done. true≢false (sym (done
 
 -- a tick is done in every phase
 pub tick-done : (r : Record) (d p : ℕ) → Shaped r → Sound r → d < r .doors → stepOf r Tick d p .answer ≡ Done
-unfolding soundStep exist allows andAlso orElse
+unfolding soundStep existAmong allows andAlso orElse
 tick-done r d p sh s h = rw (sound-steps r Tick d p sh s, lt-ltb d (r .doors) h) (act-done r d (doing r Tick d p))
 
 -- a light's last tick, and each one before it

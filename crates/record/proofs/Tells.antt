@@ -13,7 +13,7 @@ use Rattle.tables.specs.Tables.{Plan, rightAt, mayBe, orElse, andAlso, mostLoca
 use Rattle.tables.specs.Below.{allBelow, Tells}
 use Rattle.tables.specs.Rules.{Lawful}
 use Rattle.tables.proofs.Answers.{lawful-tells}
-use Rattle.tables.proofs.Laws.{clash, denied as untrue, tell-lt, tell-le, tell-eq, tell-itself, tell-and, tell-cond, tell-all, tell-as}
+use Rattle.tables.proofs.Laws.{clash, not-so as untrue, tell-lt, tell-le, tell-eq, tell-itself, tell-and, tell-cond, tell-all, tell-as}
 use Rattle.door_fits.proofs.Fields.{FieldsOk, tell-fields}
 use Rattle.door.specs.declared.Door.{Door}
 use Rattle.record.specs.declared.record.Record.{Record}

@@ -6,11 +6,11 @@ use lib.ListN.{getD}
 use lib.Dec.{ltb, eqb}
 use Rattle.numbers.specs.Numbers.{doneNo, noSuchNo, unsoundNo}
 use Rattle.tables.specs.Way.{wayOf, wayToldIn, wayWrittenIn}
-use Rattle.told.specs.Told.{wayToldNo}
-use Rattle.told.specs.declared.Found.{Found}
-use Rattle.told.specs.declared.Found.the-variants as found
-use Rattle.told.specs.declared.WayTold.{WayTold}
-use Rattle.told.specs.declared.WayTold.the-variants as way
+use Rattle.findings.specs.Told.{wayToldNo}
+use Rattle.findings.specs.declared.Found.{Found}
+use Rattle.findings.specs.declared.Found.the-variants as found
+use Rattle.findings.specs.declared.WayTold.{WayTold}
+use Rattle.findings.specs.declared.WayTold.the-variants as way
 use Rattle.record.specs.declared.record.Record.{Record}
 use Rattle.asked_place.specs.declared.PlaceAnswer.{PlaceAnswer}
 use Rattle.asked_place.specs.declared.PlaceAnswer.the-variants as place

@@ -12,6 +12,7 @@ use Rattle.phases.specs.declared.answer.Answer.the-variants.{Done, NoSuch, NotA
 use Rattle.phases.specs.Answers.{reasonNone, reasonAway, reasonBarred, reasonBusy}
 use Rattle.record.specs.declared.steps.Step.{Step}
 use Rattle.deeds.specs.declared.Told.{Told}
+use Rattle.deeds.specs.Deeds.{existAmong}
 use Rattle.door_does.specs.declared.Does.{Does}
 use Rattle.door_does.specs.declared.Does.the-variants.{Stays, Turns, Moves}
 use Rattle.door_does.specs.Does.{effect}
@@ -56,8 +57,8 @@ abbrev pub refused : Record → Answer → ℕ → Step
 refused r answer phase = record { next = r; answer = answer; phase = phase; reason = 0 }
 
 -- do the door and, of a card, the person exist?
-unfoldable pub exist : Record → Kind → ℕ → ℕ → Bool
-exist r k d p = andAlso (ltb d (r .doors)) (orElse (not (namesPerson k)) (ltb p (r .people)))
+abbrev pub exist : Record → Kind → ℕ → ℕ → Bool
+exist r k d p = existAmong (r .people) (r .doors) k d p
 
 -- what a step that may be done does at its door
 abbrev pub doing : Record → Kind → ℕ → ℕ → Does

@@ -4,14 +4,12 @@ ghost use mathlib.Core.Path.{_≡_};
 ghost use Rattle.phases.specs.Kinds.{kindOf};
 ghost use Rattle.record.specs.Steps.{refused, stepOf};
 use crate::record::Record;
+use deeds::UNTOLD;
 use deeds::carry_out;
 use deeds::judge;
 use phases::answer::Answer;
 use phases::answer::Reason;
 use phases::table::Kind;
-
-// The phase that is told where there is no door to tell it of.
-const UNTOLD: u8 = 0;
 
 // What a step hands back.
 pub struct Step {

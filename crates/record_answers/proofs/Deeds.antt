@@ -9,6 +9,7 @@ use borrow.Author.Tests.{ltb-true, ltb-false, lt-ltb}
 use lib.ListN.{getD}
 use lib.Seq.{getD-set-other}
 use lib.Dec.{ltb}
+use Rattle.numbers.specs.Numbers.{noSuchNo, notAllowedNo, unsoundNo}
 use Rattle.tables.specs.Tables.{Plan, orElse, mostPeople}
 use Rattle.tables.specs.Below.{Tells}
 use Rattle.tables.proofs.Laws.{clash, and-left, and-right, and-both}
@@ -55,9 +56,9 @@ done-told (Moves c) phase held to = refl
 abbrev Numbered : Plan → List ℕ → Kind → ℕ → ℕ → Deed → Type 0
 Numbered site phase k d p deed =
     NumberBy
-    (14 unless site .people ≤ mostPeople
-    then 11 unless (d < site .doors) × (namesPerson k ≡ true → p < site .people)
-    then 12 unless asked k (getD phase d 0) ≡ true
+    (unsoundNo unless site .people ≤ mostPeople
+    then noSuchNo unless (d < site .doors) × (namesPerson k ≡ true → p < site .people)
+    then notAllowedNo unless asked k (getD phase d 0) ≡ true
     then done)
     (answerNo (toldOf deed .answer))
 

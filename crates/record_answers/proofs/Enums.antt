@@ -3,10 +3,10 @@ use mathlib.Core.Path.{_≡_, refl}
 use mathlib.Core.List.{[], _∷_}
 use mathlib.Core.Logic.{inl, inr}
 use Rattle.numbers.specs.Numbers.{doneNo, noSuchNo, tooShortNo, unsoundNo}
-use Rattle.told.specs.Told.{wayToldNo, wayToldLength}
-use Rattle.told.specs.declared.Found.the-variants as found
-use Rattle.told.specs.declared.WayTold.{WayTold}
-use Rattle.told.specs.declared.WayTold.the-variants as told
+use Rattle.findings.specs.Told.{wayToldNo, wayToldLength}
+use Rattle.findings.specs.declared.Found.the-variants as found
+use Rattle.findings.specs.declared.WayTold.{WayTold}
+use Rattle.findings.specs.declared.WayTold.the-variants as told
 use Rattle.asked_place.specs.declared.PlaceAnswer.{PlaceAnswer}
 use Rattle.asked_place.specs.declared.PlaceAnswer.the-variants as place
 use Rattle.asked_grant.specs.declared.GrantAnswer.{GrantAnswer}

@@ -11,8 +11,8 @@ use lib.Seq.{sets}
 use lib.Dec.{eqb, ltb, leb}
 use Rattle.tables.specs.Tables.{orElse, andAlso, mostDoors}
 use Rattle.tables.specs.Below.{Tells}
-use Rattle.told.specs.declared.Found.{Found}
-use Rattle.told.specs.declared.Found.the-variants.{At, Nothing}
+use Rattle.findings.specs.declared.Found.{Found}
+use Rattle.findings.specs.declared.Found.the-variants.{At, Nothing}
 use Rattle.tables.specs.Way.{wayOf, ifRoom, wayToldIn, wayWrittenIn}
 use Rattle.tables.proofs.Laws.{and-left, and-right, and-both, clash, tell-le, tell-and, tell-as}
 use Rattle.record.specs.declared.record.Record.{Record}
@@ -33,6 +33,7 @@ use Rattle.record.specs.SoundTest.{soundB}
 use Rattle.door_does.specs.declared.Does.{Does}
 use Rattle.door_does.specs.declared.Does.the-variants.{Stays, Turns, Moves}
 use Rattle.door_does.specs.Does.{effect}
+use Rattle.deeds.specs.Deeds.{existAmong}
 use Rattle.record.specs.Steps.{reasonFor, act, refused, doing, exist, soundStep, stepOf}
 use Rattle.deeds.specs.declared.Told.{Told}
 use Rattle.record.specs.Deeds.{telling}
@@ -45,14 +46,14 @@ use Rattle.record.proofs.Tells.{sound-tells}
 use Rattle.record.proofs.Asked.{place-as-said, grant-as-said, way-as-said}
 use Rattle.record.proofs.Laws.{act-done}
 use Rattle.numbers.specs.Telling.{NumberBy}
-use Rattle.record_answers.specs.Lending.{Lent, LentRows, none, one, replyIn, LentIsSteps, LentIsRun}
+use Rattle.record_answers.specs.Lending.{Lent, LentRows, none, one, replyOfTold, LentIsSteps, LentIsRun}
 use Rattle.record_answers.specs.Answers.{Exists, stepOrder, StepTells, Room, RunTells, PlaceTells, GrantTells, WayOutTells, RecordAnswers}
 
 -- ---- a step
 
 -- the test whether door and person exist
 exist-tells : (r : Record) (k : Kind) (d p : ℕ) → Tells (exist r k d p) (Exists r k d p)
-unfolding exist orElse
+unfolding existAmong orElse
 exist-tells r k d p =
     record {
       yes = λ e.
@@ -202,7 +203,7 @@ unfolding lastOf repliesOf
 lent-steps none = record { same-record = refl; same-told = refl }
 lent-steps (one {row} {rows} w more) =
     let on = lent-steps more in
-    let first = ap replyIn (w .tells) in
+    let first = ap replyOfTold (w .tells) in
     let others = on .same-told ∙ ap (λ (x : Record). repliesOf x rows) (w .next) in
     record { same-record = on .same-record ∙ ap (λ (x : Record). lastOf x rows) (w .next); same-told = λ i. first i ∷ others i }
 

@@ -6,7 +6,7 @@ use mathlib.Core.List.{List}
 use mathlib.Core.Logic.{_↔_}
 use Rattle.tables.specs.Tables.{Plan}
 use Rattle.tables.specs.Below.{Tells}
-use Rattle.told.specs.declared.Found.the-variants.{At, Nothing}
+use Rattle.findings.specs.declared.Found.the-variants.{At, Nothing}
 use Rattle.granting.specs.Grants.{GrantAt, grantOf, hasGrant}
 use Rattle.granting.specs.Reasons.{firstReason}
 use Rattle.soundness.specs.SoundTest.{listsSound}

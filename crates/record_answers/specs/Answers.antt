@@ -9,7 +9,7 @@ use lib.ListN.{length, getD, drop}
 use lib.Seq.{sets}
 use lib.Dec.{ltb}
 use Rattle.numbers.specs.Numbers.{doneNo, noSuchNo, notAllowedNo, tooShortNo, unsoundNo}
-use Rattle.told.specs.declared.Found.the-variants.{At, Nothing}
+use Rattle.findings.specs.declared.Found.the-variants.{At, Nothing}
 use Rattle.tables.specs.Tables.{Plan, mostPeople}
 use Rattle.tables.specs.Below.{Tells}
 use Rattle.tables.specs.Rules.{Lawful}

@@ -4,10 +4,10 @@ use Prim.Native.Nat.{ℕ}
 use mathlib.Core.Path.{_≡_}
 use mathlib.Core.List.{[], _∷_}
 use Rattle.numbers.specs.Numbers.{doneNo, noSuchNo, tooShortNo, unsoundNo}
-use Rattle.told.specs.Told.{wayToldNo, wayToldLength}
-use Rattle.told.specs.declared.Found.{Found}
-use Rattle.told.specs.declared.Found.the-variants.{Nothing}
-use Rattle.told.specs.declared.WayTold.{WayTold}
+use Rattle.findings.specs.Told.{wayToldNo, wayToldLength}
+use Rattle.findings.specs.declared.Found.{Found}
+use Rattle.findings.specs.declared.Found.the-variants.{Nothing}
+use Rattle.findings.specs.declared.WayTold.{WayTold}
 use Rattle.asked_place.specs.declared.PlaceAnswer.{PlaceAnswer}
 use Rattle.asked_grant.specs.declared.GrantAnswer.{GrantAnswer}
 use Rattle.asked_way.specs.declared.WayAnswer.{WayAnswer}

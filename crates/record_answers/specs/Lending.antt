@@ -24,17 +24,17 @@ pub data LentRows : Record → List StepRow → Record → List Told → Type 0 
       → Lent r (row .kind) (row .at) (row .person) next told → LentRows next rows last more → LentRows r (row ∷ rows) last (told ∷ more)
 
 -- what is told, by its number
-abbrev pub replyIn : Told → Reply
-replyIn told = record { answer = answerNo (told .answer); phase = told .phase; reason = told .reason }
+abbrev pub replyOfTold : Told → Reply
+replyOfTold told = record { answer = answerNo (told .answer); phase = told .phase; reason = told .reason }
 
 -- it is the last record of the steps, and what is told is what they tell
 pub record LentIsSteps (r : Record) (rows : List StepRow) (last : Record) (told : List Told) : Type 0 where
   pub same-record : last ≡ lastOf r rows
-  pub same-told : map replyIn told ≡ repliesOf r rows
+  pub same-told : map replyOfTold told ≡ repliesOf r rows
 
 -- it is the record that a run hands back, and what is told is what the run writes into its three lists
 pub record LentIsRun (r : Record) (steps doors persons answers phases reasons : List ℕ) (last : Record) (told : List Told) : Type 0 where
   pub same-record : runOf r steps doors persons answers phases reasons .next ≡ last
-  pub same-answers : answersOf r steps doors persons answers phases reasons ≡ sets answers 0 (map answerTold (map replyIn told))
-  pub same-phases : phasesOf r steps doors persons answers phases reasons ≡ sets phases 0 (map phaseTold (map replyIn told))
-  pub same-reasons : reasonsOf r steps doors persons answers phases reasons ≡ sets reasons 0 (map reasonTold (map replyIn told))
+  pub same-answers : answersOf r steps doors persons answers phases reasons ≡ sets answers 0 (map answerTold (map replyOfTold told))
+  pub same-phases : phasesOf r steps doors persons answers phases reasons ≡ sets phases 0 (map phaseTold (map replyOfTold told))
+  pub same-reasons : reasonsOf r steps doors persons answers phases reasons ≡ sets reasons 0 (map reasonTold (map replyOfTold told))

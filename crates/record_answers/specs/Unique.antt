@@ -6,8 +6,8 @@ use mathlib.Core.Bool.{Bool}
 use mathlib.Core.List.{List}
 use lib.ListN.{length, getD}
 use lib.Dec.{ltb}
-use Rattle.told.specs.declared.Found.{Found}
-use Rattle.told.specs.declared.Found.the-variants.{Nothing}
+use Rattle.findings.specs.declared.Found.{Found}
+use Rattle.findings.specs.declared.Found.the-variants.{Nothing}
 use Rattle.tables.specs.Tables.{Plan, plan}
 use Rattle.tables.specs.Way.{wayOf}
 use Rattle.record.specs.declared.record.Record.{Record}

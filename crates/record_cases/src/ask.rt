@@ -4,12 +4,12 @@ use crate::step::write_ran;
 use crate::write::write;
 use crate::write::write_bytes;
 use crate::write::write_next;
+use findings::Found;
 use questions::granted_to;
 use questions::place_of;
 use questions::way_out;
 use record::record::Record;
 use tables::MOST_LOCATIONS;
-use told::Found;
 
 // What a list holds before a way out is written into it.
 const UNWRITTEN: u8 = 99;

@@ -16,7 +16,7 @@ use ask::ask;
 use blank_lists::blank_sheet;
 use grammar::cut::Cells;
 use grammar::cut::RowCut;
-use put::put;
+use put::with_field;
 use reader::row_at;
 use record::record::Record;
 use sheet_files::read_sheet;
@@ -62,7 +62,7 @@ fn take_row(s: &[u8], cells: Cells, record: Record) -> Record {
         ask(word, a, b, record);
         return record;
     }
-    put(word, a, b, record)
+    with_field(word, a, b, record)
 }
 
 // The rows of a sheet, one after the other; there are no more of them than bytes.

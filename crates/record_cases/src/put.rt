@@ -43,7 +43,7 @@ fn turn_right(person: usize, location: usize, mut record: Record) -> Record {
 }
 
 // The record with a field put anew, or an entry of it, by the number of its word.
-pub fn put(field: u8, a: usize, b: usize, mut record: Record) -> Record {
+pub fn with_field(field: u8, a: usize, b: usize, mut record: Record) -> Record {
     match field {
         17 => record.people = a,
         18 => record.locations = a,

@@ -12,18 +12,19 @@ use record::steps::Step;
 
 // By the method of the step's name.
 fn by_method(kind: u8, door: usize, person: usize, record: Record) -> Step {
+    let kind = Kind::of(kind);
     match kind {
-        0 => record.card(door, person),
-        1 => record.decide(door),
-        2 => record.green(door),
-        3 => record.red(door),
-        4 => record.walk(door),
-        5 => record.tick(door),
-        6 => record.passed(door),
-        7 => record.lapsed(door),
-        8 => record.dark(door),
-        9 => record.ack(door),
-        _ => record.step(Kind::Unknown, door, person),
+        Kind::Card => record.card(door, person),
+        Kind::Decide => record.decide(door),
+        Kind::Green => record.green(door),
+        Kind::Red => record.red(door),
+        Kind::Walk => record.walk(door),
+        Kind::Tick => record.tick(door),
+        Kind::Passed => record.passed(door),
+        Kind::Lapsed => record.lapsed(door),
+        Kind::Dark => record.dark(door),
+        Kind::Ack => record.ack(door),
+        Kind::Unknown => record.step(Kind::Unknown, door, person),
     }
 }
 

@@ -1,10 +1,10 @@
 // What the rows say and what is printed for them: numbers with a comma in front, all on the row's own line.
+use cell_meaning::Number;
 use cells::say::number_of;
 use grammar::cut::Cell;
 use grammar::cut::Cells;
 use libc::STDOUT_FILENO;
 use lists::byte_at;
-use saying::Number;
 
 // The number that a field says, 0 for none.
 pub fn number_or_0(s: &[u8], cell: Cell) -> usize {

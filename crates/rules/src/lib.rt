@@ -14,12 +14,12 @@ ghost use Rattle.tables.specs.Way.{unvisited, wayOut, wayOf, wayToldIn, wayWrit
 ghost use Rattle.tables.specs.Tests.{doorInRange, exitInRange, countsFit, planInRange, lacksExit, firstNoExit};
 ghost use Rattle.tables.specs.Tests.{strays, firstStray, joins, lacksDoor, firstNoDoor};
 ghost use Rattle.tables.specs.Tests.{lacksRight, firstNoRight, letsIn, shutOut, firstShutOut, lawfulB};
+use findings::Found;
+use findings::RightFound;
+use findings::WayTold;
 use lists::byte_at;
 use tables::MOST_DOORS;
 use tables::MOST_LOCATIONS;
-use told::Found;
-use told::RightFound;
-use told::WayTold;
 
 // Whether a person may be in a location.
 pub fn may_be(right: &[bool], person: usize, location: usize) -> bool
@@ -203,7 +203,12 @@ fn write_way<'a>(left: usize, exit: &'a [u8], from: usize, list: &'a mut [u8], a
 
 // The way out of a location, written into the front of the list that is lent for it, the rest of
 // the list unaltered. It is measured first: into a shorter list nothing is written.
-pub fn way_out<'a>(locations: usize, exit: &'a [u8], from: usize, list: &'a mut [u8]) -> WayTold
+pub fn way_by_exits<'a>(
+    locations: usize,
+    exit: &'a [u8],
+    from: usize,
+    list: &'a mut [u8],
+) -> WayTold
     ensures wayToldIn { λ r. ⌜ r ≡ wayToldIn (wayOf locations (now (exit .entry)) from) (now (list .entry)) ⌝ }
     ensures wayWrittenIn { λ _. ⌜ now (list .exit) ≡ wayWrittenIn (wayOf locations (now (exit .entry)) from) (now (list .entry)) ⌝ }
 {

@@ -15,6 +15,7 @@ ghost use Rattle.run_text.specs.Printed.{answerRows, repliesFrom, runText, alon
 ghost use Rattle.run_text.specs.Printed.{placesText, recordText, lastRecord, whereText};
 use crate::blank::blank_bytes;
 use crate::serve::serve;
+use findings::Printed;
 use number_rows::put_row;
 use numbers::Paper;
 use record::record::Record;
@@ -22,7 +23,6 @@ use site::read_site;
 use steps::heading_of;
 use steps_sheet::Heading;
 use text::write::put_bytes;
-use told::Printed;
 
 // A byte as a number of the text.
 fn wide(byte: u8) -> usize

@@ -17,13 +17,13 @@ use Rattle.phases.specs.declared.table.Kind.the-variants.{Card, Decide, Green, 
 use Rattle.phases.specs.Phase.{read, granted, green, walked, expired, denied, red, dimmed, grants}
 use Rattle.phases.specs.Kinds.{allows}
 use Rattle.record.specs.Run.{Reply}
-use Rattle.record.proofs.Laws.{becomes, tells}
+use Rattle.record.proofs.Laws.{becomes, reasonIn}
 use Rattle.run_events.specs.Events.{Grant, Denial, Passage, Lapse, event, Nothing, meaningBy, Stage, NoCard, Awaited, After, Spell, spellBy, eventBy}
 use Rattle.run_events.specs.Told.{CardOf, GrantOf, standing, standingBy, standingAt, Granted, whatBy}
 
 -- the reply of a step that was done at a door that was c
 abbrev pub doneReply : Door → Does → Reply
-doneReply c x = record { answer = 0; phase = becomes c x .phase; reason = tells x }
+doneReply c x = record { answer = 0; phase = becomes c x .phase; reason = reasonIn x }
 
 -- ---- what stands at a door
 

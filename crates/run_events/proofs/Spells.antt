@@ -22,7 +22,7 @@ use Rattle.run_events.specs.Lines.{Line, linesOf, heardOf}
 use Rattle.run_events.specs.Events.{What, Meaning, Taken, Happened, Freed, Nothing, meaningBy, meaningOf, Stage, NoCard, Awaited, After, Spell, spellBy, spellsAfter, spellsOf}
 use Rattle.run_events.specs.Told.{standingAt, Free, Agree, Comes, end, elsewhere, unmoved, moved, here, later, Since, no-card, began, goes-on}
 use Rattle.run_events.proofs.Doors.{at-read, at-grant}
-use Rattle.run_events.proofs.Steps.{lineOf, done-means, not-done, after-here, after-there, tells}
+use Rattle.run_events.proofs.Steps.{lineOf, done-means, not-done, after-here, after-there, row-tells}
 
 -- ---- something happens only to a card
 
@@ -94,4 +94,4 @@ since [] spells n r sh s agree d = go (spells d .stage) refl
 since (row ∷ rows) spells n r sh s agree d =
     one-more spells n r agree row d
     (since rows (spellsAfter spells n (lineOf row (rowOf r row))) (n + 1) (rowOf r row .next) (shaped-stays r (row .kind) (row .at) (row .person) sh)
-    (sound-stays r (row .kind) (row .at) (row .person) sh s) (tells spells n r sh s agree row .after) d)
+    (sound-stays r (row .kind) (row .at) (row .person) sh s) (row-tells spells n r sh s agree row .after) d)

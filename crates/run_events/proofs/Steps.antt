@@ -72,12 +72,12 @@ module _ (spells : ℕ → Spell) (n : ℕ) (line : Line) (d : ℕ) where
   after-nothing nothing = ⊎-elim (λ is. after-here is ∙ rw nothing) after-there (same-or-not d (line .row .at))
 
 -- what is told of a step of row n that handed back z, and what is seen of it
-pub record Tells (spells : ℕ → Spell) (n : ℕ) (r : Record) (row : StepRow) (z : Step) : Type 0 where
+pub record RowTells (spells : ℕ → Spell) (n : ℕ) (r : Record) (row : StepRow) (z : Step) : Type 0 where
   pub seen : eventBy (meaningOf (lineOf row z)) n (row .at) (spells (row .at) .person) ≡ seenOf n r row z
   pub after : Agree (spellsAfter spells n (lineOf row z)) (z .next)
 
 module _ (spells : ℕ → Spell) (n : ℕ) (r : Record) (sh : Shaped r) (s : Sound r) (agree : Agree spells r) (row : StepRow) where
-  tells-refused : (a : Answer) (ph : ℕ) → (a ≡ Done → ⊥) → Tells spells n r row (refused r a ph)
+  tells-refused : (a : Answer) (ph : ℕ) → (a ≡ Done → ⊥) → RowTells spells n r row (refused r a ph)
   unfolding meaningOf eventBy
   tells-refused a ph no-way =
       let off = not-done a no-way in
@@ -102,12 +102,12 @@ module _ (spells : ℕ → Spell) (n : ℕ) (r : Record) (sh : Shaped r) (s : So
         rw (after-there spells n (lineOf row z) d ne)
         (agree .each d ∙ ap standingAt (sym (rw acted at (others-stay r (row .kind) (row .at) (row .person) d ne))))
 
-    tells-done : Tells spells n r row z
+    tells-done : RowTells spells n r row z
     tells-done =
         record {
           seen = rw (done-means r row (doing r (row .kind) (row .at) (row .person)), act-done r (row .at) (doing r (row .kind) (row .at) (row .person))) (follow .seen);
           after = record { each = λ d. ⊎-elim (λ is. rw is here) (there d) (same-or-not d (row .at)) };
         }
 
-  pub tells : Tells spells n r row (rowOf r row)
-  tells = step-cases (Tells spells n r row) r (row .kind) (row .at) (row .person) tells-refused tells-done
+  pub row-tells : RowTells spells n r row (rowOf r row)
+  row-tells = step-cases (RowTells spells n r row) r (row .kind) (row .at) (row .person) tells-refused tells-done

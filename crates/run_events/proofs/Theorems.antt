@@ -29,7 +29,7 @@ use Rattle.run_events.specs.Lines.{Line, linesOf, heardOf}
 use Rattle.run_events.specs.Events.{RunEvent, meaningBy, meaningOf, NoCard, Spell, noSpell, noSpells, spellsAfter, spellsOf, spellsIn, eventBy, eventsOf}
 use Rattle.run_events.specs.Told.{standing, standingAt, Agree, shownAt, shownIn, Granted, eventsSeen, givesEvent, rowsActed, Began, Since, no-card, began, goes-on, EndsGrant, passing, lapsing, TellsTruly}
 use Rattle.run_events.proofs.Doors.{at-grant, is-granted}
-use Rattle.run_events.proofs.Steps.{tells}
+use Rattle.run_events.proofs.Steps.{row-tells}
 use Rattle.run_events.proofs.Spells.{since}
 
 -- ---- one step after the other
@@ -45,8 +45,8 @@ all-seen [] spells n r sh s agree = refl
 all-seen (row ∷ rows) spells n r sh s agree =
     let sh′ = shaped-stays r (row .kind) (row .at) (row .person) sh in
     let s′ = sound-stays r (row .kind) (row .at) (row .person) sh s in
-    let on = all-seen rows _ (n + 1) (rowOf r row .next) sh′ s′ (tells spells n r sh s agree row .after) in
-    both (tells spells n r sh s agree row .seen) on
+    let on = all-seen rows _ (n + 1) (rowOf r row .next) sh′ s′ (row-tells spells n r sh s agree row .after) in
+    both (row-tells spells n r sh s agree row .seen) on
 
 -- the spells agree with the record after any list
 pub agree-on : (rows : List StepRow) (spells : ℕ → Spell) (n : ℕ) (r : Record) → Shaped r → Sound r → Agree spells r
@@ -55,7 +55,7 @@ unfolding heardOf linesOf repliesOf spellsOf lastOf
 agree-on [] spells n r sh s agree = agree
 agree-on (row ∷ rows) spells n r sh s agree =
     agree-on rows _ (n + 1) (rowOf r row .next) (shaped-stays r (row .kind) (row .at) (row .person) sh)
-    (sound-stays r (row .kind) (row .at) (row .person) sh s) (tells spells n r sh s agree row .after)
+    (sound-stays r (row .kind) (row .at) (row .person) sh s) (row-tells spells n r sh s agree row .after)
 
 -- ---- the rows of the events, of any lines
 

@@ -23,12 +23,13 @@ use Rattle.granting.specs.Grants.{grantsTo, grantOf, hasGrant}
 use Rattle.record.specs.Sound.{Sound}
 use Rattle.door_does.specs.Does.{effect}
 use Rattle.granting.specs.Reasons.{firstReason}
+use Rattle.deeds.specs.Deeds.{existAmong}
 use Rattle.record.specs.Steps.{act, exist, soundStep}
 use Rattle.record.specs.Run.{Reply, replyBy, rowOf, lastOf, repliesOf}
 use Rattle.record.proofs.Laws.{sound-steps, sound-stays, shaped-stays}
 use Rattle.grammar.specs.Cut.{bareMove, shutMove, moveOf, endOf, fieldFrom, pushed, rowFrom, cutRow}
 use Rattle.grammar.specs.Rows.{readRows, rowsFrom}
-use Rattle.saying.specs.Say.{valueFrom, digitsFrom, needlessZero, numberIn, contentAt, sameBytes, isWord, placeIn, placeAmong, namedFrom, saysWords, numberAt}
+use Rattle.cell_meaning.specs.Say.{valueFrom, digitsFrom, needlessZero, numberIn, contentAt, sameBytes, isWord, placeIn, placeAmong, namedFrom, saysWords, numberAt}
 use Rattle.site_sheet.specs.declared.SiteRead.{SiteRead}
 use Rattle.site_sheet.specs.Accepted.{AcceptedRecord}
 use Rattle.verdict.specs.declared.Verdict.the-variants.{Accepted, NoSite}
@@ -141,7 +142,7 @@ panel-ran s e f = panel-here s e ∙ ap (ranText site-of-01) f ∙ sound-ran _
 texts : (soundRan stepsOf01 ≡ panelOf01)
     × (soundRan oneCard ≡ panelTop (four 1 0 1 0 (four 2 2 0 0 [])))
     × (recordText (soundLast site-of-01 (stepsOf01 .rows)) ≡ whereTop (two 0 1 (two 1 0 [])))
-unfolding soundRan soundReplies soundLast stepsOf01 oneCard soundStep firstReason effect act exist allows hasGrant grantOf leastBelow orAt grantsTo grants mayBe andAlso orElse zeros runText answerRows placeRows placesText rowOfNumbers decimal digits
+unfolding soundRan soundReplies soundLast stepsOf01 oneCard soundStep firstReason effect act existAmong allows hasGrant grantOf leastBelow orAt grantsTo grants mayBe andAlso orElse zeros runText answerRows placeRows placesText rowOfNumbers decimal digits
 texts = (refl, refl, refl)
 
 alone : (aloneText 2 ≡ panelTop (four 0 2 0 0 [])) × (aloneText 5 ≡ panelTop (four 0 5 0 0 [])) × (placesText [] ≡ whereTop []) × (recordText site-of-01 ≡ whereTop (two 0 0 (two 1 0 [])))

@@ -3,11 +3,11 @@
 ghost use mathlib.Core.Path.{_≡_};
 ghost use Prim.Native.Nat.{_<_, _^_};
 ghost use Rattle.grammar.specs.Cut.{emptyAt, upTo, bareMove, shutMove, moveOf, endOf, cutField, pushed, noCells, cutRow};
+use grammar::cut::ByteMove;
 use grammar::cut::Cell;
 use grammar::cut::Cells;
 use grammar::cut::FieldCut;
 use grammar::cut::Mode;
-use grammar::cut::Move;
 use grammar::cut::RowCut;
 
 const QUOTE: u8 = 34;
@@ -41,57 +41,63 @@ fn up_to(cell: Cell, next: usize, doubled: bool) -> Cell
 }
 
 // What a byte other than a quote does in a bare field.
-fn advance_bare(cell: Cell, b: u8, next: usize) -> Move
+fn advance_bare(cell: Cell, b: u8, next: usize) -> ByteMove
     ensures { λ r. ⌜ r ≡ bareMove cell b next ⌝ }
 {
     match b {
-        COMMA => Move::NextField,
-        CR => Move::Go(Mode::Return, cell),
-        LF => Move::Wrong,
-        _ => Move::Go(Mode::Bare, up_to(cell, next, false)),
+        COMMA => ByteMove::NextField,
+        CR => ByteMove::Go(Mode::Return, cell),
+        LF => ByteMove::Wrong,
+        _ => ByteMove::Go(Mode::Bare, up_to(cell, next, false)),
     }
 }
 
 // What a byte does behind a quote that closes a field or is the first of two.
-fn advance_shut(cell: Cell, b: u8, next: usize) -> Move
+fn advance_shut(cell: Cell, b: u8, next: usize) -> ByteMove
     ensures { λ r. ⌜ r ≡ shutMove cell b next ⌝ }
 {
     match b {
-        QUOTE => Move::Go(Mode::Open, up_to(cell, next, true)),
-        COMMA => Move::NextField,
-        CR => Move::Go(Mode::Return, cell),
-        _ => Move::Wrong,
+        QUOTE => ByteMove::Go(Mode::Open, up_to(cell, next, true)),
+        COMMA => ByteMove::NextField,
+        CR => ByteMove::Go(Mode::Return, cell),
+        _ => ByteMove::Wrong,
     }
 }
 
 // What the byte b does in a field that has come to this mode and this cell; the byte behind it is at `next`.
-fn advance(mode: Mode, cell: Cell, b: u8, next: usize) -> Move
+fn advance(mode: Mode, cell: Cell, b: u8, next: usize) -> ByteMove
     ensures { λ r. ⌜ r ≡ moveOf mode cell b next ⌝ }
 {
     match mode {
         Mode::Fresh => {
             if b == QUOTE {
-                Move::Go(Mode::Open, empty_at(next))
+                ByteMove::Go(Mode::Open, empty_at(next))
             } else {
                 advance_bare(cell, b, next)
             }
         }
         Mode::Bare => {
             if b == QUOTE {
-                Move::Wrong
+                ByteMove::Wrong
             } else {
                 advance_bare(cell, b, next)
             }
         }
         Mode::Open => {
             if b == QUOTE {
-                Move::Go(Mode::Shut, cell)
+                ByteMove::Go(Mode::Shut, cell)
             } else {
-                Move::Go(Mode::Open, up_to(cell, next, cell.doubled))
+                ByteMove::Go(Mode::Open, up_to(cell, next, cell.doubled))
             }
         }
         Mode::Shut => advance_shut(cell, b, next),
-        Mode::Return => { if b == LF { Move::RowEnd } else { Move::Wrong } }
+        Mode::Return => {
+            if b == LF {
+                ByteMove::RowEnd
+            } else {
+                ByteMove::Wrong
+            }
+        }
     }
 }
 
@@ -117,18 +123,18 @@ pub fn cut_field(s: &[u8], at: usize) -> FieldCut
     let mut i = at;
     while i < s.len() {
         match advance(mode, cell, s[i], i + 1) {
-            Move::Go(m, c) => {
+            ByteMove::Go(m, c) => {
                 mode = m;
                 cell = c;
                 i += 1;
             }
-            Move::NextField => {
+            ByteMove::NextField => {
                 return FieldCut::Next(cell, i + 1);
             }
-            Move::RowEnd => {
+            ByteMove::RowEnd => {
                 return FieldCut::Last(cell, i + 1);
             }
-            Move::Wrong => {
+            ByteMove::Wrong => {
                 return FieldCut::Fault(i);
             }
         }

@@ -21,12 +21,12 @@ use Rattle.grammar.specs.Grammar.{Field, bare, quoted, fieldText, comma, cr, lf
 use Rattle.grammar.specs.Cut.{emptyAt, cutField, cutRow}
 use Rattle.grammar.specs.Where.{cellOf, CellHolds}
 use Rattle.grammar.specs.Rows.{onRow, readRows, rowsFrom, countFrom, countRows}
-use Rattle.saying.specs.declared.Number.the-variants.{Is, None}
-use Rattle.saying.specs.Say.{ProperNumber, contentAt, sameBytes, isWord, saysWords, numberIn, numberAt}
+use Rattle.cell_meaning.specs.declared.Number.the-variants.{Is, None}
+use Rattle.cell_meaning.specs.Say.{ProperNumber, contentAt, sameBytes, isWord, saysWords, numberIn, numberAt}
 use Rattle.grammar.proofs.Steps.{FieldIn, field-in, cut-within}
 use Rattle.grammar.proofs.Found.{FieldFound, with-crlf, with-sheet}
 use Rattle.grammar.proofs.Reading.{cut-behind, cut-there}
-use Rattle.saying.proofs.Saying.{same-self, same-true, proper-read, read-proper, clash as no-number}
+use Rattle.cell_meaning.proofs.Saying.{same-self, same-true, proper-read, read-proper, clash as no-number}
 use Rattle.grammar.proofs.Theorems.{found-is-row, found-is-field, field-before-comma, field-before-crlf, field-before-end}
 use Rattle.tables.specs.Below.{Tells}
 use Rattle.tables.proofs.Laws.{clash, tell-eq, tell-as}

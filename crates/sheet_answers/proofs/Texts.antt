@@ -10,12 +10,12 @@ use lib.Dec.{leb}
 use native.Mathlib.Nat.{zero-add}
 use lib.ListN.{length, drop}
 use lib.Seq.{length-sets, sets-eq}
-use Rattle.told.specs.declared.Printed.{Printed}
-use Rattle.told.specs.declared.Printed.the-variants.{Text, TooShort}
+use Rattle.findings.specs.declared.Printed.{Printed}
+use Rattle.findings.specs.declared.Printed.the-variants.{Text, TooShort}
 use Rattle.text.specs.Wrote.{Wrote}
 use Rattle.text.specs.Wrote as wrote
 use Rattle.text.specs.Printed.{fitsIn, printedOf, written, Prints}
-use Rattle.told.specs.Told.{printedNo}
+use Rattle.findings.specs.Told.{printedNo}
 use Rattle.text.proofs.Writing.{sets-past}
 use Rattle.text.proofs.Decimal.{decimal-some}
 use Rattle.text.proofs.Rows.{row-some}

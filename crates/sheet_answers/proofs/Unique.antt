@@ -1,7 +1,7 @@
 -- Answers of the functions over sheets and texts are unique; what that says of each is in `specs/Unique.antt`. Assumes nothing.
 use Prim.Native.Nat.{ℕ}
 use mathlib.Core.List.{List}
-use Rattle.told.specs.declared.Printed.{Printed}
+use Rattle.findings.specs.declared.Printed.{Printed}
 use Rattle.text.specs.Wrote.{Wrote}
 use Rattle.text.specs.Printed.{Prints}
 use Rattle.numbers.specs.Telling.{Unique}

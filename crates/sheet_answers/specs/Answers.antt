@@ -17,16 +17,16 @@ use Rattle.grammar.specs.declared.cut.RowCut.{RowCut}
 use Rattle.grammar.specs.declared.cut.RowCut.the-variants.{Cut, NoRow, Broken}
 use Rattle.grammar.specs.declared.count.RowsCounted.{RowsCounted}
 use Rattle.grammar.specs.declared.count.RowsCounted.the-variants.{All, UpTo}
-use Rattle.saying.specs.declared.Number.the-variants.{Is}
+use Rattle.cell_meaning.specs.declared.Number.the-variants.{Is}
 use Rattle.grammar.specs.Cut.{cutField, cutRow}
 use Rattle.grammar.specs.Rows.{countRows}
 use Rattle.reader.specs.Reader.{readerAt}
-use Rattle.saying.specs.Say.{ProperNumber, contentAt, isWord, saysWords, numberAt}
-use Rattle.told.specs.declared.Printed.{Printed}
-use Rattle.told.specs.declared.Printed.the-variants.{Text}
+use Rattle.cell_meaning.specs.Say.{ProperNumber, contentAt, isWord, saysWords, numberAt}
+use Rattle.findings.specs.declared.Printed.{Printed}
+use Rattle.findings.specs.declared.Printed.the-variants.{Text}
 use Rattle.text.specs.Text.{decimal, rowOfNumbers}
 use Rattle.text.specs.Wrote.{lastPlace, Wrote}
-use Rattle.told.specs.Told.{printedNo}
+use Rattle.findings.specs.Told.{printedNo}
 use Rattle.tables.specs.Below.{Tells}
 use Rattle.numbers.specs.Telling.{done, _unless_then_, NumberBy, OneOf}
 

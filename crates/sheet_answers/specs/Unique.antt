@@ -11,15 +11,15 @@ use Rattle.grammar.specs.declared.cut.Cells.{Cells}
 use Rattle.grammar.specs.declared.cut.FieldCut.{FieldCut}
 use Rattle.grammar.specs.declared.cut.RowCut.{RowCut}
 use Rattle.grammar.specs.declared.count.RowsCounted.{RowsCounted}
-use Rattle.saying.specs.declared.Number.{Number}
+use Rattle.cell_meaning.specs.declared.Number.{Number}
 use Rattle.grammar.specs.Cut.{cutField, cutRow}
 use Rattle.grammar.specs.Rows.{countRows}
 use Rattle.reader.specs.Reader.{readerAt}
-use Rattle.saying.specs.Say.{isWord, saysWords, numberAt}
-use Rattle.told.specs.declared.Printed.{Printed}
+use Rattle.cell_meaning.specs.Say.{isWord, saysWords, numberAt}
+use Rattle.findings.specs.declared.Printed.{Printed}
 use Rattle.text.specs.Text.{decimal, rowOfNumbers}
 use Rattle.text.specs.Wrote.{Wrote}
-use Rattle.told.specs.Told.{printedNo}
+use Rattle.findings.specs.Told.{printedNo}
 use Rattle.numbers.specs.Telling.{Unique}
 
 pub record SheetUnique : Type 0 where

@@ -4,8 +4,11 @@
 // definitions, and the theorems of them, are those of crates `site_lines` and `site_sheet`.
 ghost use mathlib.Core.Path.{_≡_};
 ghost use Rattle.site_lines.specs.Line.{siteHeaderAt};
-ghost use Rattle.site_sheet.specs.Site.{acceptedSite, refusedSite, judgedBy10, judgedFrom8, judged, settled, siteOf};
+ghost use Rattle.site_sheet.specs.Site.{acceptedSite, refusedSite, judgedBy10, judgedFrom8, judgedDraft, settled, siteOf};
+use blank_lists::blank_rights;
 use cells::say::says_words;
+use findings::Found;
+use findings::RightFound;
 use grammar::cut::Cells;
 use grammar::cut::RowCut;
 use reader::row_at;
@@ -18,9 +21,6 @@ use site_sheet::SiteRead;
 use site_tables::read_rows;
 use tables::MOST_DOORS;
 use tables::MOST_LOCATIONS;
-use tables::MOST_RIGHTS;
-use told::Found;
-use told::RightFound;
 use verdict::Verdict;
 
 // Whether a row with these cells is the header.
@@ -43,7 +43,7 @@ fn refused(verdict: Verdict) -> SiteRead
             [0; MOST_DOORS],
             [0; MOST_DOORS],
             [0; MOST_LOCATIONS],
-            [false; MOST_RIGHTS],
+            blank_rights(),
         ),
     }
 }
@@ -113,7 +113,7 @@ fn judged_from_8(draft: Draft) -> SiteRead
 
 // Rules 6 to 10 over the whole sheet, each finished before the next.
 fn judged(draft: Draft) -> SiteRead
-    ensures { λ r. ⌜ r ≡ judged draft ⌝ }
+    ensures { λ r. ⌜ r ≡ judgedDraft draft ⌝ }
 {
     let locations = draft.locations;
     if let Found::At(l) = rules::first_no_exit(locations, &draft.given) {

@@ -27,13 +27,13 @@ site-in p l e =
       locations-to = leb-true l mostLocations (and-right (leb 2 l) _ g);
     }
 
-pub record DoorIn (locations doors o t : ℕ) : Type 0 where
+pub record DoorRowIn (locations doors o t : ℕ) : Type 0 where
   pub from : o < locations
   pub to : t < locations
   pub differ : o ≡ t → ⊥
   pub room : doors < mostDoors
 
-pub door-in : (locations doors o t : ℕ) → doorRowFits locations doors o t ≡ true → DoorIn locations doors o t
+pub door-in : (locations doors o t : ℕ) → doorRowFits locations doors o t ≡ true → DoorRowIn locations doors o t
 unfolding doorRowFits
 door-in locations doors o t e =
     let f = and-right (ltb o locations) _ e in
@@ -74,7 +74,7 @@ site-fit p l i =
     and-both _ _ (le-leb 1 p (i .people-from))
     (and-both _ _ (le-leb p mostPeople (i .people-to)) (and-both _ _ (le-leb 2 l (i .locations-from)) (le-leb l mostLocations (i .locations-to))))
 
-pub door-fit : (locations doors o t : ℕ) → DoorIn locations doors o t → doorRowFits locations doors o t ≡ true
+pub door-fit : (locations doors o t : ℕ) → DoorRowIn locations doors o t → doorRowFits locations doors o t ≡ true
 unfolding doorRowFits
 door-fit locations doors o t i =
     and-both _ _ (lt-ltb o locations (i .from))

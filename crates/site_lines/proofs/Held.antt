@@ -20,7 +20,7 @@ use Rattle.site_lines.specs.declared.SiteLine.the-variants.{Site, Door, 
 use Rattle.site_lines.specs.declared.Draft.{Draft}
 use Rattle.site_lines.specs.Draft.{Bounded, countsOf, blankDraft, planIn, unmarked, withSite, withDoor, withExit, withRight}
 use Rattle.site_lines.specs.Says.{Holds, originsIn, destinationsIn, isExit, hasExit, exitIn, hasRight}
-use Rattle.site_lines.proofs.Fits.{SiteIn, DoorIn, ExitIn, RightIn}
+use Rattle.site_lines.proofs.Fits.{SiteIn, DoorRowIn, ExitIn, RightIn}
 use Rattle.site_lines.proofs.Bounds.{bounded-blank}
 use Rattle.site_lines.proofs.Said.{people-more, locations-more, origins-more, destinations-more, exit-more, right-more, target-more}
 
@@ -50,7 +50,7 @@ pub record Held (before : List SiteLine) (d : Draft) : Type 0 where
   -- places beyond the counts are 0
   pub zero : Zero d
 
-unmarked-at : (n k : ℕ) → getD (unmarked n) k false ≡ false
+pub unmarked-at : (n k : ℕ) → getD (unmarked n) k false ≡ false
 unfolding unmarked
 unmarked-at n k = ⊎-elim (λ h. getD-replicate n k false false h) beyond (below-or-not k n)
   where
@@ -159,7 +159,7 @@ module _ (before : List SiteLine) (d : Draft) (h : Held before d) where
   same-ranged : Ranged d → Ranged d
   same-ranged r = r
 
-  module _ (o t : ℕ) (r : Ranged d) (i : DoorIn (d .locations) (d .doors) o t) (a : d .doors < length (d .origin)) (b : d .doors < length (d .destination)) where
+  module _ (o t : ℕ) (r : Ranged d) (i : DoorRowIn (d .locations) (d .doors) o t) (a : d .doors < length (d .origin)) (b : d .doors < length (d .destination)) where
     start-at : (k : ℕ) → k ≡ d .doors → getD (set (d .origin) (d .doors) o) k 0 ≡ o
     start-at k e = rw e (getD-set-same (d .origin) (d .doors) o 0 a)
 
@@ -201,7 +201,7 @@ module _ (before : List SiteLine) (d : Draft) (h : Held before d) where
         (λ e. rw (getD-set-other (d .exit) l k m 0 e) (r .exits k b)) (same-or-not k l);
   }
 
-  pub held-door : (o t : ℕ) → (before ≡ [] → ⊥) → DoorIn (d .locations) (d .doors) o t → Held (before ++ (Door o t ∷ [])) (withDoor d o t)
+  pub held-door : (o t : ℕ) → (before ≡ [] → ⊥) → DoorRowIn (d .locations) (d .doors) o t → Held (before ++ (Door o t ∷ [])) (withDoor d o t)
   unfolding originsIn destinationsIn hasExit exitIn hasRight orElse
   held-door o t n i =
       let hd = h .holds .doors in

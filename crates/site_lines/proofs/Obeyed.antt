@@ -14,10 +14,10 @@ use Rattle.tables.specs.Tables.{orElse, andAlso, mayBe, mostPeople, mostLocatio
 use Rattle.tables.specs.Below.{Smallest, Answers, AnswersPair}
 use Rattle.tables.specs.Way as way
 use Rattle.tables.specs.Rules.{DoorFrom, FirstLocation, ExitDoor, ExitRight, Lawful}
-use Rattle.told.specs.declared.Found.{Found}
-use Rattle.told.specs.declared.RightFound.{RightFound}
+use Rattle.findings.specs.declared.Found.{Found}
+use Rattle.findings.specs.declared.RightFound.{RightFound}
 use Rattle.tables.specs.Tests.{firstNoExit, firstStray, firstNoDoor, firstNoRight, firstShutOut}
-use Rattle.tables.proofs.Laws.{and-right, and-both, or-left, or-right, denied, clash, may-be-outside}
+use Rattle.tables.proofs.Laws.{and-right, and-both, or-left, or-right, not-so, clash, may-be-outside}
 use Rattle.tables.proofs.Answers.{rule-6, rule-7, rule-8, rule-9, rule-10}
 use Rattle.site_lines.specs.declared.SiteLine.{SiteLine}
 use Rattle.site_lines.specs.declared.SiteLine.the-variants.{Site, Door, Exit, Right, Bad}
@@ -68,12 +68,12 @@ exit-inside (exit-range i a b) = i
 exit-line : {before lines : List SiteLine} {l m : ℕ} → FineLines before lines → Among (Exit l m) lines → ExitLine before lines l m
 unfolding exitIn hasExit
 exit-line {before} {l = l} (one-fine f a) first =
-    record { inside = exit-inside (f .in-range); new = denied _ (λ e. f .new (second-exit (has-exit l before e))); is = rw (eq-eqb l l refl) }
+    record { inside = exit-inside (f .in-range); new = not-so _ (λ e. f .new (second-exit (has-exit l before e))); is = rw (eq-eqb l l refl) }
 exit-line {before} {l = l} (one-fine {line = line} f a) (behind b) =
     let r = exit-line a b in
     let e : orElse (hasExit l before) (orElse (isExit l line) false) ≡ false = sym (exit-more l before (line ∷ [])) ∙ r .new in
-    let n : isExit l line ≡ false = denied _ (λ t. clash (or-right _ _ (or-left _ false t)) e) in
-    record { inside = r .inside; new = denied _ (λ t. clash (or-left _ _ t) e); is = rw n (r .is) }
+    let n : isExit l line ≡ false = not-so _ (λ t. clash (or-right _ _ (or-left _ false t)) e) in
+    record { inside = r .inside; new = not-so _ (λ t. clash (or-left _ _ t) e); is = rw n (r .is) }
 
 -- ---- the rules
 

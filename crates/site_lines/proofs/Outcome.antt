@@ -19,7 +19,7 @@ use Rattle.site_lines.specs.declared.Fault.the-variants as fault
 use Rattle.site_lines.specs.Draft.{Taken, took, notTaken, siteRowFits, doorRowFits, exitRowFits, rightRowFits, withSite, withDoor, withExit, withRight, takeSite, takeDoor, takeExit, takeRight, takeLine}
 use Rattle.site_lines.specs.Taking.{soundFault}
 use Rattle.site_lines.specs.Says.{hasExit, hasRight, LineInRange, site-range, door-range, exit-range, right-range, Again, second-site, second-exit, same-right, NotFirst, door-first, exit-first, right-first, Fine, Wrong, of-form, no-site, out-of-range, said-again}
-use Rattle.site_lines.proofs.Fits.{SiteIn, DoorIn, ExitIn, RightIn, site-in, door-in, exit-in, right-in, site-fit, door-fit, exit-fit, right-fit}
+use Rattle.site_lines.proofs.Fits.{SiteIn, DoorRowIn, ExitIn, RightIn, site-in, door-in, exit-in, right-in, site-fit, door-fit, exit-fit, right-fit}
 use Rattle.site_lines.proofs.Said.{has-exit, exit-has, right-row, right-has}
 use Rattle.site_lines.proofs.Held.{Held, held-site, held-door, held-exit, held-right}
 
@@ -101,7 +101,7 @@ module _ (before : List SiteLine) (d : Draft) (h : Held before d) where
     goes-in : (before ≡ [] → ⊥) → LineInRange before line → (Again before line → ⊥) → (e : Draft) → Held (before ++ (line ∷ [])) e → Outcome before d line (took e)
     goes-in s r a e k = fine (record { started = λ q n. s q; in-range = r; new = a }) refl k
 
-  door-range-is : (o t : ℕ) → LineInRange before (Door o t) → DoorIn (d .locations) (d .doors) o t
+  door-range-is : (o t : ℕ) → LineInRange before (Door o t) → DoorRowIn (d .locations) (d .doors) o t
   door-range-is o t (door-range a b c e) = record { from = rw (h .holds .locations) a; to = rw (h .holds .locations) b; differ = c; room = rw (h .holds .doors) e }
 
   door-outcome : (o t : ℕ) → (before ≡ [] → ⊥) → Outcome before d (Door o t) (takeDoor d o t)

@@ -10,14 +10,14 @@ use lib.Dec.{eqb}
 use borrow.Author.Tests.{eq-eqb, eqb-true, eqb-false}
 use Rattle.tables.proofs.Cases.{either}
 use Rattle.grammar.specs.declared.cut.Cells.{Cells}
-use Rattle.saying.specs.declared.Number.{Number}
-use Rattle.saying.specs.declared.Number.the-variants as number
+use Rattle.cell_meaning.specs.declared.Number.{Number}
+use Rattle.cell_meaning.specs.declared.Number.the-variants as number
 use Rattle.grammar.specs.Grammar.{Row, content, fields}
 use Rattle.grammar.specs.Where.{holdsQuote, fieldOf, RowHolds}
-use Rattle.saying.specs.Say.{ProperNumber, sameBytes, isWord, saysWords, numberIn, numberAt, placeIn}
-use Rattle.saying.proofs.Saying.{same-true, proper-read, read-proper}
-use Rattle.saying.proofs.Contents.{both-true, word-same, number-same}
-use Rattle.saying.proofs.Naming.{none, more, by-place, named-same}
+use Rattle.cell_meaning.specs.Say.{ProperNumber, sameBytes, isWord, saysWords, numberIn, numberAt, placeIn}
+use Rattle.cell_meaning.proofs.Saying.{same-true, proper-read, read-proper}
+use Rattle.cell_meaning.proofs.Contents.{both-true, word-same, number-same}
+use Rattle.cell_meaning.proofs.Naming.{none, more, by-place, named-same}
 use Rattle.site_lines.specs.declared.Word.{Word}
 use Rattle.site_lines.specs.declared.SiteLine.{SiteLine}
 use Rattle.site_lines.specs.declared.SiteLine.the-variants.{Site, Door, Exit, Right, Bad}

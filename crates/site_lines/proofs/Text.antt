@@ -35,22 +35,22 @@ says-most : (s : List ℕ) (most at : ℕ) → length s - at < most → TextSays
 says-most s zero at h = absurd (omega arith)
 says-most s (suc most) at h = rw (rows-next s at) (turn s at (cutRow s at) refl (λ next l w. says-most s most next (omega arith)))
 
-pub text-says : (s : List ℕ) (at : ℕ) → TextSaysLines (drop at s) (linesIn s (rowsFrom s at))
-text-says s at = says-most s (suc (length s - at)) at (omega arith)
+pub lines-said : (s : List ℕ) (at : ℕ) → TextSaysLines (drop at s) (linesIn s (rowsFrom s at))
+lines-said s at = says-most s (suc (length s - at)) at (omega arith)
 
 -- a row says one line, so that a text says one list of lines
 line-unique : {r r′ : Row} {line line′ : SiteLine} → r ≡ r′ → SaysSo r line → SaysSo r′ line′ → line ≡ line′
 line-unique {r} {r′} e x y = sym (from-says r x) ∙ ap lineFrom e ∙ from-says r′ y
 
-pub text-unique : {text text′ : List ℕ} {lines lines′ : List SiteLine} → TextSaysLines text lines → TextSaysLines text′ lines′ → text ≡ text′ → lines ≡ lines′
-text-unique nothing nothing e = refl
-text-unique nothing (a-row a x t) e = absurd (no-row-at a e)
-text-unique nothing (no-row-there n m) e = absurd (n (sym e))
-text-unique (a-row a x t) nothing e = absurd (no-row-at a (sym e))
-text-unique (a-row a x t) (a-row b y u) e =
+pub lines-unique : {text text′ : List ℕ} {lines lines′ : List SiteLine} → TextSaysLines text lines → TextSaysLines text′ lines′ → text ≡ text′ → lines ≡ lines′
+lines-unique nothing nothing e = refl
+lines-unique nothing (a-row a x t) e = absurd (no-row-at a e)
+lines-unique nothing (no-row-there n m) e = absurd (n (sym e))
+lines-unique (a-row a x t) nothing e = absurd (no-row-at a (sym e))
+lines-unique (a-row a x t) (a-row b y u) e =
     let k = row-unique a b e in
-    ap₂ (λ (l : SiteLine) (ls : List SiteLine). l ∷ ls) (line-unique (k .first) x y) (text-unique t u (k .behind))
-text-unique (a-row {r = r} {rest = rest} a x t) (no-row-there n m) e = absurd (m r rest (rw e at a))
-text-unique (no-row-there n m) nothing e = absurd (n e)
-text-unique (no-row-there n m) (a-row {r = r} {rest = rest} b y u) e = absurd (m r rest (rw (sym e) at b))
-text-unique (no-row-there n m) (no-row-there n′ m′) e = refl
+    ap₂ (λ (l : SiteLine) (ls : List SiteLine). l ∷ ls) (line-unique (k .first) x y) (lines-unique t u (k .behind))
+lines-unique (a-row {r = r} {rest = rest} a x t) (no-row-there n m) e = absurd (m r rest (rw e at a))
+lines-unique (no-row-there n m) nothing e = absurd (n e)
+lines-unique (no-row-there n m) (a-row {r = r} {rest = rest} b y u) e = absurd (m r rest (rw (sym e) at b))
+lines-unique (no-row-there n m) (no-row-there n′ m′) e = refl

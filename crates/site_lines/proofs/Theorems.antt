@@ -19,7 +19,7 @@ use Rattle.site_lines.specs.Says.{SaysSo, TextSaysLines}
 use Rattle.site_lines.specs.Gives.{RowsTold, all-taken, one-wrong}
 use Rattle.site_lines.proofs.Held.{held-blank}
 use Rattle.site_lines.proofs.Rows.{line-same, says-from, from-says}
-use Rattle.site_lines.proofs.Text.{text-says, text-unique}
+use Rattle.site_lines.proofs.Text.{lines-said, lines-unique}
 use Rattle.site_lines.proofs.Outcomes.{ReadOf, all, stopped, read-of}
 
 -- The cells of a row are read as a line exactly when the row says it.
@@ -31,7 +31,7 @@ line-exactly s cells r h line = (
 
 -- Rows that say these lines are taken into tables that hold what they say, or the first with which something is wrong is told.
 pub rows-taken : (s : List ℕ) (from : ℕ) (lines : List SiteLine) → TextSaysLines (drop from s) lines → RowsTold lines (readLines blankDraft 1 (linesIn s (rowsFrom s from)))
-rows-taken s from lines says = rw (text-unique (text-says s from) says refl) (told (read-of lines [] 1 blankDraft held-blank))
+rows-taken s from lines says = rw (lines-unique (lines-said s from) says refl) (told (read-of lines [] 1 blankDraft held-blank))
   where
     told : {r : Reading} → ReadOf [] lines 1 blankDraft r → RowsTold lines r
     told (all a f h) = all-taken a f (h .holds)

@@ -3,11 +3,11 @@ use Prim.Native.Nat.{ℕ}
 use mathlib.Core.Bool.{Bool, cond}
 use mathlib.Core.List.{List, [], _∷_}
 use lib.Dec.{eqb}
-use Rattle.saying.specs.Say.{saysWords, numberAt, namedFrom}
+use Rattle.cell_meaning.specs.Say.{saysWords, numberAt, namedFrom}
 use Rattle.grammar.specs.declared.cut.Cell.{Cell}
 use Rattle.grammar.specs.declared.cut.Cells.{Cells}
-use Rattle.saying.specs.declared.Number.{Number}
-use Rattle.saying.specs.declared.Number.the-variants as number
+use Rattle.cell_meaning.specs.declared.Number.{Number}
+use Rattle.cell_meaning.specs.declared.Number.the-variants as number
 use Rattle.site_lines.specs.declared.Word.{Word}
 use Rattle.site_lines.specs.declared.Word.the-variants as word
 use Rattle.site_lines.specs.declared.SiteLine.{SiteLine}

@@ -8,7 +8,7 @@ use lib.Dec.{eqb}
 use Rattle.tables.specs.Tables.{orElse, andAlso, mostPeople, mostLocations, mostDoors}
 use Rattle.grammar.specs.Grammar.{Row, RowAt, content, fields}
 use Rattle.grammar.specs.Where.{fieldOf}
-use Rattle.saying.specs.Say.{ProperNumber}
+use Rattle.cell_meaning.specs.Say.{ProperNumber}
 use Rattle.site_lines.specs.declared.SiteLine.{SiteLine}
 use Rattle.site_lines.specs.declared.SiteLine.the-variants.{Site, Door, Exit, Right, Bad}
 use Rattle.site_lines.specs.declared.Draft.{Draft}

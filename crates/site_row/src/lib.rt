@@ -2,11 +2,11 @@
 // those of crate `site_lines`.
 ghost use mathlib.Core.Path.{_≡_};
 ghost use Rattle.site_lines.specs.Line.{wordOf, siteLineAt};
+use cell_meaning::Number;
 use cells::say::is_word;
 use cells::say::number_of;
 use grammar::cut::Cell;
 use grammar::cut::Cells;
-use saying::Number;
 use site_lines::SiteLine;
 use site_lines::Word;
 
@@ -30,7 +30,7 @@ fn word_of(s: &[u8], cell: Cell) -> Word
 }
 
 // What a row with these cells says.
-pub fn line_of(s: &[u8], cells: Cells) -> SiteLine
+pub fn site_line_of(s: &[u8], cells: Cells) -> SiteLine
     ensures { λ r. ⌜ r ≡ siteLineAt (now (s .entry)) cells ⌝ }
 {
     if cells.count != 3 {

@@ -8,10 +8,10 @@ use mathlib.Core.List.{List, []}
 use lib.ListN.{length}
 use lib.Dec.{ltb, eqb}
 use borrow.Author.Tests.{ltb-true, ltb-false, eqb-true, eqb-false}
-use Rattle.told.specs.declared.Found.{Found}
-use Rattle.told.specs.declared.Found.the-variants as found
-use Rattle.told.specs.declared.RightFound.{RightFound}
-use Rattle.told.specs.declared.RightFound.the-variants as pair
+use Rattle.findings.specs.declared.Found.{Found}
+use Rattle.findings.specs.declared.Found.the-variants as found
+use Rattle.findings.specs.declared.RightFound.{RightFound}
+use Rattle.findings.specs.declared.RightFound.the-variants as pair
 use Rattle.tables.specs.Tests.{firstNoExit, firstStray, firstNoDoor, firstNoRight, firstShutOut}
 use Rattle.tables.proofs.Laws.{clash}
 use Rattle.tables.proofs.Cases.{either}
@@ -29,13 +29,13 @@ use Rattle.site_lines.specs.declared.Reading.{Reading}
 use Rattle.site_lines.specs.Line.{siteHeaderAt}
 use Rattle.site_lines.specs.Draft.{blankDraft, planIn}
 use Rattle.site_lines.specs.Taking.{soundFault, linesIn}
-use Rattle.site_sheet.specs.Site.{refusedSite, unlessFound, unlessPair, judgedBy10, judgedFrom8, judged, settled, afterHeader, siteAt}
+use Rattle.site_sheet.specs.Site.{refusedSite, unlessFound, unlessPair, judgedBy10, judgedFrom8, judgedDraft, settled, afterHeader, siteAt}
 use Rattle.site_lines.specs.Gives.{Headed, RowsFine, Six, Seven, Eight, Nine, Gives, gives-0, gives-1, gives-header, gives-row, gives-5, gives-6, gives-7, gives-8, gives-9, gives-10}
 use Rattle.site_lines.proofs.Held.{Held, held-blank}
 use Rattle.site_lines.proofs.Obeyed.{Ruled, rules-of}
 use Rattle.site_lines.proofs.Outcome.{fine, nothing-before, some-before}
 use Rattle.site_lines.proofs.Rows.{headerFrom, header-same, header-is, is-header-row}
-use Rattle.site_lines.proofs.Text.{text-says}
+use Rattle.site_lines.proofs.Text.{lines-said}
 use Rattle.site_lines.proofs.Outcomes.{ReadOf, all, stopped, read-of}
 
 -- ---- the rules of the whole sheet
@@ -70,8 +70,8 @@ module _ (most : ℕ) (s : List ℕ) (lines : List SiteLine) (d : Draft) (t : Ro
       unless-pair (Given most s) (firstNoRight (planIn d) (d .right)) (λ p l q. gives-9 t a b c (ruled .nine a .at-yes p l q))
       (λ q. ten a b c (ruled .nine a .none-yes q)))
 
-  judged-gives : Given most s (judged d)
-  unfolding judged
+  judged-gives : Given most s (judgedDraft d)
+  unfolding judgedDraft
   judged-gives =
       unless (Given most s) (firstNoExit (d .locations) (d .given)) (λ k q. gives-6 t (ruled .six .at-yes k q))
       (λ n. let a = ruled .six .none-yes n in
@@ -103,7 +103,7 @@ module _ (most : ℕ) (s : List ℕ) (short : length s ≤ most) where
       either (Given most s) (siteHeaderAt s cells)
       (λ y.
       let h : Headed most s (linesIn s (rowsFrom s next)) =
-      record { short = short; header = c .row; rest = c .rest; at = c .there; is = header-is (c .row) (sym same ∙ y); says = rw (c .behind) at (text-says s next) } in
+      record { short = short; header = c .row; rest = c .rest; at = c .there; is = header-is (c .row) (sym same ∙ y); says = rw (c .behind) at (lines-said s next) } in
       settled-gives most s (linesIn s (rowsFrom s next)) _ h (read-of (linesIn s (rowsFrom s next)) [] 1 blankDraft held-blank))
       (λ n. gives-header short (λ r rest a i. clash (is-header-row r i) (ap headerFrom (row-unique a (c .there) refl .first) ∙ sym same ∙ n)))
   after-gives NoRow e = gives-header short (λ r rest a i. no-row-at a (sym (no-row-end s 0 e)))

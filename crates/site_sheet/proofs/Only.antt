@@ -8,8 +8,8 @@ use mathlib.Core.List.{List, []}
 use lib.ListN.{length}
 use borrow.Author.Tests.{lt-ltb, le-ltb, ne-eqb}
 use Rattle.tables.specs.Below.{Smallest, SmallestPair}
-use Rattle.told.specs.declared.Found.the-variants as found
-use Rattle.told.specs.declared.RightFound.the-variants as pair
+use Rattle.findings.specs.declared.Found.the-variants as found
+use Rattle.findings.specs.declared.RightFound.the-variants as pair
 use Rattle.tables.specs.Tests.{firstStray, firstNoDoor, firstNoRight}
 use Rattle.tables.proofs.Cases.{either}
 use Rattle.grammar.specs.declared.cut.RowCut.{RowCut}
@@ -30,14 +30,14 @@ use Rattle.site_sheet.specs.declared.SiteRead.{SiteRead}
 use Rattle.site_lines.specs.Line.{siteHeaderAt}
 use Rattle.site_lines.specs.Draft.{blankDraft, planIn}
 use Rattle.site_lines.specs.Taking.{verdictOf, linesIn, readLines}
-use Rattle.site_sheet.specs.Site.{acceptedSite, judged, settled, afterHeader, siteAt}
+use Rattle.site_sheet.specs.Site.{acceptedSite, judgedDraft, settled, afterHeader, siteAt}
 use Rattle.site_lines.specs.Says.{peopleIn, locationsIn, SiteHeaderRow, LineInRange, site-range, door-range, exit-range, right-range, NotFirst, door-first, exit-first, right-first, Fine, Wrong, of-form, no-site, out-of-range, said-again}
 use Rattle.site_lines.specs.Gives.{Headed, FineLines, one-fine, WrongAt, here, further, RowsFine, ExitOf, ComesOut, ExitHasDoor, RightToExit, ComesIn, Six, Seven, Eight, Nine, Ten, Obeys, Gives, gives-0, gives-1, gives-header, gives-row, gives-5, gives-6, gives-7, gives-8, gives-9, gives-10}
 use Rattle.site_lines.proofs.Held.{Held, held-blank}
 use Rattle.site_lines.proofs.Obeyed.{Ruled, rules-of}
 use Rattle.site_lines.proofs.Outcome.{fine}
 use Rattle.site_lines.proofs.Rows.{headerFrom, header-same, header-is, is-header-row}
-use Rattle.site_lines.proofs.Text.{text-says, text-unique}
+use Rattle.site_lines.proofs.Text.{lines-said, lines-unique}
 use Rattle.site_lines.proofs.Outcomes.{ReadOf, all, stopped, read-of}
 
 -- ---- one thing is wrong with a line, or nothing
@@ -113,7 +113,7 @@ module _ (most : ℕ) (s : List ℕ) where
       let e = row-is-cut s 0 (h .at) in
       let c = cut-is-row s 0 e in
       let q : siteHeaderAt s (cellsOf noCells 0 (h .header)) ≡ true = header-same s (c .row) (c .holds) ∙ ap headerFrom (row-unique (c .there) (h .at) refl .first) ∙ is-header-row (h .header) (h .is) in
-      let l : linesIn s (rowsFrom s (length s - length (h .rest))) ≡ lines = text-unique (text-says s (length s - length (h .rest))) (h .says) (c .behind ∙ row-unique (c .there) (h .at) refl .behind) in
+      let l : linesIn s (rowsFrom s (length s - length (h .rest))) ≡ lines = lines-unique (lines-said s (length s - length (h .rest))) (h .says) (c .behind ∙ row-unique (c .there) (h .at) refl .behind) in
       rw (le-ltb most (length s) (h .short), e, q, l)
 
   row-given : {lines : List SiteLine} {k : ℕ} {f : Fault} → ReadOf [] lines 1 blankDraft (readLines blankDraft 1 lines) → WrongAt [] lines k f
@@ -125,11 +125,11 @@ module _ (most : ℕ) (s : List ℕ) where
       let m : 1 + j ≡ k + 1 = let p = o .place in omega arith in
       rw (e, q, n, m, o .fault)
 
-  fine-given : {lines : List SiteLine} → RowsFine most s lines → siteAt most s ≡ judged (tablesOf lines)
+  fine-given : {lines : List SiteLine} → RowsFine most s lines → siteAt most s ≡ judgedDraft (tablesOf lines)
   unfolding settled
   fine-given {lines} t = headed-reads (t .headed) ∙ go (read-of lines [] 1 blankDraft held-blank)
     where
-      go : ReadOf [] lines 1 blankDraft (readLines blankDraft 1 lines) → settled (readLines blankDraft 1 lines) ≡ judged (tablesOf lines)
+      go : ReadOf [] lines 1 blankDraft (readLines blankDraft 1 lines) → settled (readLines blankDraft 1 lines) ≡ judgedDraft (tablesOf lines)
       go (all a e h) =
           let b = h .begun (t .some) in
           let z : tablesOf lines .locations ≡ 0 → ⊥ = λ y. omega arith in
@@ -147,41 +147,41 @@ module _ (most : ℕ) (s : List ℕ) where
 
 -- what is found first in tables whose searches answer by the lines
 module _ {lines : List SiteLine} {d : Draft} (r : Ruled lines d) where
-  given-6 : {k : ℕ} → Smallest (ExitOf lines) (locationsIn lines) k → judged d .verdict ≡ NoExit k
-  unfolding judged
+  given-6 : {k : ℕ} → Smallest (ExitOf lines) (locationsIn lines) k → judgedDraft d .verdict ≡ NoExit k
+  unfolding judgedDraft
   given-6 {k} m = rw (r .six .at-back k m)
 
   module _ (six : Six lines) where
-    given-7 : {k : ℕ} → Smallest (ComesOut lines) (locationsIn lines) k → judged d .verdict ≡ Stray k
-    unfolding judged
+    given-7 : {k : ℕ} → Smallest (ComesOut lines) (locationsIn lines) k → judgedDraft d .verdict ≡ Stray k
+    unfolding judgedDraft
     given-7 {k} m = rw (r .six .none-back six, r .seven six .at-back k m)
 
     module _ (seven : Seven lines) where
       e₇ : firstStray (d .locations) (d .exit) ≡ found.Nothing
       e₇ = r .seven six .none-back seven
 
-      given-8 : {k : ℕ} → Smallest (ExitHasDoor lines) (locationsIn lines) k → judged d .verdict ≡ NoDoor k
-      unfolding judged
+      given-8 : {k : ℕ} → Smallest (ExitHasDoor lines) (locationsIn lines) k → judgedDraft d .verdict ≡ NoDoor k
+      unfolding judgedDraft
       given-8 {k} m = rw (r .six .none-back six, e₇, r .eight six .at-back k m)
 
       module _ (eight : Eight lines) where
         e₈ : firstNoDoor (planIn d) ≡ found.Nothing
         e₈ = r .eight six .none-back eight
 
-        given-9 : {p l : ℕ} → SmallestPair (RightToExit lines) (peopleIn lines) (locationsIn lines) p l → judged d .verdict ≡ NoRight p l
-        unfolding judged
+        given-9 : {p l : ℕ} → SmallestPair (RightToExit lines) (peopleIn lines) (locationsIn lines) p l → judgedDraft d .verdict ≡ NoRight p l
+        unfolding judgedDraft
         given-9 {p} {l} m = rw (r .six .none-back six, e₇, e₈, r .nine six .at-back p l m)
 
         module _ (nine : Nine lines) where
           e₉ : firstNoRight (planIn d) (d .right) ≡ pair.Nothing
           e₉ = r .nine six .none-back nine
 
-          given-10 : {k : ℕ} → Smallest (ComesIn lines) (peopleIn lines) k → judged d .verdict ≡ ShutOut k
-          unfolding judged
+          given-10 : {k : ℕ} → Smallest (ComesIn lines) (peopleIn lines) k → judgedDraft d .verdict ≡ ShutOut k
+          unfolding judgedDraft
           given-10 {k} m = rw (r .six .none-back six, e₇, e₈, e₉, r .ten .at-back k m)
 
-          given-0 : Ten lines → judged d ≡ acceptedSite d
-          unfolding judged
+          given-0 : Ten lines → judgedDraft d ≡ acceptedSite d
+          unfolding judgedDraft
           given-0 ten = rw (r .six .none-back six, e₇, e₈, e₉, r .ten .none-back ten)
 
 -- the tables of a sheet whose rows are right hold what its lines say, and pass 3
@@ -195,7 +195,7 @@ fine-held {lines = lines} t = go (read-of lines [] 1 blankDraft held-blank)
 fine-ruled : {most : ℕ} {s : List ℕ} {lines : List SiteLine} → RowsFine most s lines → Ruled lines (tablesOf lines)
 fine-ruled t = rules-of t (fine-held t)
 
-fine-says : {most : ℕ} {s : List ℕ} {lines : List SiteLine} {v : Verdict} → RowsFine most s lines → judged (tablesOf lines) .verdict ≡ v → siteAt most s .verdict ≡ v
+fine-says : {most : ℕ} {s : List ℕ} {lines : List SiteLine} {v : Verdict} → RowsFine most s lines → judgedDraft (tablesOf lines) .verdict ≡ v → siteAt most s .verdict ≡ v
 fine-says {most} {s} t e = ap (λ x. x .verdict) (fine-given most s t) ∙ e
 
 -- the record of an accepted sheet

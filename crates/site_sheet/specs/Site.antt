@@ -4,10 +4,10 @@ use mathlib.Core.Bool.{cond}
 use mathlib.Core.List.{List}
 use lib.ListN.{length}
 use lib.Dec.{ltb, eqb}
-use Rattle.told.specs.declared.Found.{Found}
-use Rattle.told.specs.declared.Found.the-variants as found
-use Rattle.told.specs.declared.RightFound.{RightFound}
-use Rattle.told.specs.declared.RightFound.the-variants as pair
+use Rattle.findings.specs.declared.Found.{Found}
+use Rattle.findings.specs.declared.Found.the-variants as found
+use Rattle.findings.specs.declared.RightFound.{RightFound}
+use Rattle.findings.specs.declared.RightFound.the-variants as pair
 use Rattle.tables.specs.Tests.{firstNoExit, firstStray, firstNoDoor, firstNoRight, firstShutOut}
 use Rattle.record.specs.declared.record.Record.{Record}
 use Rattle.record.specs.Doors.{freshRecord}
@@ -57,15 +57,15 @@ abbrev pub judgedFrom8 : Draft → SiteRead
 judgedFrom8 d =
     unlessFound (firstNoDoor (planIn d)) NoDoor (unlessPair (firstNoRight (planIn d) (d .right)) NoRight (judgedBy10 d))
 
-unfoldable pub judged : Draft → SiteRead
-judged d =
+unfoldable pub judgedDraft : Draft → SiteRead
+judgedDraft d =
     unlessFound (firstNoExit (d .locations) (d .given)) NoExit
     (unlessFound (firstStray (d .locations) (d .exit)) Stray (judgedFrom8 d))
 
 -- "a header alone is 5"
 unfoldable pub settled : Reading → SiteRead
 settled r =
-    cond (soundFault (r .fault)) (cond (eqb (r .draft .locations) 0) (refusedSite NoSite) (judged (r .draft)))
+    cond (soundFault (r .fault)) (cond (eqb (r .draft .locations) 0) (refusedSite NoSite) (judgedDraft (r .draft)))
     (refusedSite (verdictOf (r .fault) (r .row)))
 
 -- "An empty sheet is 2 at row 0"

@@ -8,6 +8,7 @@ ghost use Rattle.site_lines.specs.Draft.{blankDraft};
 ghost use Rattle.site_lines.specs.Lent.{noCounts, draftWith, stop, stoppedAt};
 ghost use Rattle.site_lines.specs.Taking.{soundFault, linesIn, readLines};
 use crate::row::take;
+use blank_lists::blank_rights;
 use grammar::cut::RowCut;
 use reader::row_at;
 use site_lines::Counts;
@@ -15,7 +16,7 @@ use site_lines::Draft;
 use site_lines::Fault;
 use site_lines::Reading;
 use site_lines::Stop;
-use site_row::line_of;
+use site_row::site_line_of;
 use tables::MOST_DOORS;
 use tables::MOST_LOCATIONS;
 use tables::MOST_RIGHTS;
@@ -64,7 +65,7 @@ fn take_rows<'s, 'a>(
     loop {
         match row_at(s, at) {
             RowCut::Cut(cells, next) => {
-                let line = line_of(s, cells);
+                let line = site_line_of(s, cells);
                 let told = take(counts, line, origin, destination, exit, given, right);
                 let fault = told.fault;
                 let after = told.counts;
@@ -89,7 +90,7 @@ pub fn read_rows(s: &[u8], from: usize) -> Reading
     let mut destination = [0; MOST_DOORS];
     let mut exit = [0; MOST_LOCATIONS];
     let mut given = [false; MOST_LOCATIONS];
-    let mut right = [false; MOST_RIGHTS];
+    let mut right = blank_rights();
     let stop = take_rows(
         s,
         from,

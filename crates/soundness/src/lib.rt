@@ -11,13 +11,13 @@ ghost use Rattle.soundness.specs.SoundTest.{zeroBeyond, doorsSound, list
 use door::Door;
 use door_fits::fits;
 use door_fits::grants;
+use findings::Found;
 use granting::grant_of;
 use lists::byte_at;
 use lists::word_at;
 use phases::phase::Phase;
 use tables::MOST_DOORS;
 use tables::MOST_LOCATIONS;
-use told::Found;
 
 // Beyond the count a table holds 0.
 fn zero_at(count: usize, table: &[u8], at: usize) -> bool

@@ -24,8 +24,8 @@ use Rattle.record.specs.Run.{rowOf, rowsOf, lastOf, Reply, replyBy, repliesOf, 
 use Rattle.record.proofs.Laws.{sound-steps, sound-stays, shaped-stays, room-stays}
 
 -- the steps from the one at i on
-abbrev pub rowsFrom : List ℕ → List ℕ → List ℕ → ℕ → List StepRow
-rowsFrom steps doors persons i = rowsOf (drop i steps) (drop i doors) (drop i persons)
+abbrev pub stepsFromAt : List ℕ → List ℕ → List ℕ → ℕ → List StepRow
+stepsFromAt steps doors persons i = rowsOf (drop i steps) (drop i doors) (drop i persons)
 
 -- the step at i
 abbrev pub rowAt : List ℕ → List ℕ → List ℕ → ℕ → StepRow
@@ -38,12 +38,12 @@ pub record Has (steps doors persons : List ℕ) (i : ℕ) : Type 0 where
   pub a-person : i < length persons
 
 rows-cons : (steps doors persons : List ℕ) (i : ℕ) → Has steps doors persons i
-    → rowsFrom steps doors persons i ≡ rowAt steps doors persons i ∷ rowsFrom steps doors persons (i + 1)
+    → stepsFromAt steps doors persons i ≡ rowAt steps doors persons i ∷ stepsFromAt steps doors persons (i + 1)
 unfolding rowsOf
 rows-cons steps doors persons i h =
     rw (add-one i, drop-cons steps i 0 (h .a-step), drop-cons doors i 0 (h .a-door), drop-cons persons i 0 (h .a-person))
 
-rows-end : (steps doors persons : List ℕ) (i : ℕ) → length steps ≤ i → rowsFrom steps doors persons i ≡ []
+rows-end : (steps doors persons : List ℕ) (i : ℕ) → length steps ≤ i → stepsFromAt steps doors persons i ≡ []
 unfolding rowsOf
 rows-end steps doors persons i h = rw (drop-of-length-le steps h)
 
@@ -58,10 +58,10 @@ pub record Running (steps doors persons answers₀ phases₀ reasons₀ : List �
   pub shaped : Shaped r
   pub room : length (r .place) ≡ mostPeople
   pub low : i ≤ length steps
-  pub last : lastOf r (rowsFrom steps doors persons i) ≡ lastOf r₀ (rowsOf steps doors persons)
-  pub answered : Telling answerTold r₀ (rowsOf steps doors persons) answers₀ r (rowsFrom steps doors persons i) answers i
-  pub phased : Telling phaseTold r₀ (rowsOf steps doors persons) phases₀ r (rowsFrom steps doors persons i) phases i
-  pub reasoned : Telling reasonTold r₀ (rowsOf steps doors persons) reasons₀ r (rowsFrom steps doors persons i) reasons i
+  pub last : lastOf r (stepsFromAt steps doors persons i) ≡ lastOf r₀ (rowsOf steps doors persons)
+  pub answered : Telling answerTold r₀ (rowsOf steps doors persons) answers₀ r (stepsFromAt steps doors persons i) answers i
+  pub phased : Telling phaseTold r₀ (rowsOf steps doors persons) phases₀ r (stepsFromAt steps doors persons i) phases i
+  pub reasoned : Telling reasonTold r₀ (rowsOf steps doors persons) reasons₀ r (stepsFromAt steps doors persons i) reasons i
 
 pub run-start : {steps doors persons answers phases reasons : List ℕ} {r : Record} → Sound r → Shaped r → length (r .place) ≡ mostPeople
     → Running steps doors persons answers phases reasons r answers phases reasons r 0
@@ -162,14 +162,14 @@ module _ (r : Record) (room : Bool) (told list : List ℕ) (s : Bool) (tested : 
   telling-done b written fine is enough e = rw (← tested, not-false s fine, ← is, not-false b enough) e
 
 -- where there is room every list is long enough
-pub record Room (steps doors persons answers phases reasons : ℕ) : Type 0 where
+pub record RunRoom (steps doors persons answers phases reasons : ℕ) : Type 0 where
   pub in-doors : steps ≤ doors
   pub in-persons : steps ≤ persons
   pub in-answers : steps ≤ answers
   pub in-phases : steps ≤ phases
   pub in-reasons : steps ≤ reasons
 
-pub room : (a b c d e f : ℕ) (t : Bool) → t ≡ roomFor a b c d e f → not t ≡ false → Room a b c d e f
+pub room : (a b c d e f : ℕ) (t : Bool) → t ≡ roomFor a b c d e f → not t ≡ false → RunRoom a b c d e f
 unfolding roomFor
 room a b c d e f t is enough =
     let all = tell-and (tell-le a b) (tell-and (tell-le a c) (tell-and (tell-le a d) (tell-and (tell-le a e) (tell-le a f)))) .yes (sym is ∙ not-false t enough) in

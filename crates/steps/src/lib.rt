@@ -12,7 +12,7 @@ use grammar::cut::RowCut;
 use phases::answer::Answer;
 use reader::row_at;
 use sheet::LIMIT;
-use steps_row::line_of;
+use steps_row::steps_line_of;
 use steps_sheet::Decoded;
 use steps_sheet::Heading;
 use steps_sheet::StepsLine;
@@ -85,7 +85,7 @@ fn fill<'a>(
     loop {
         match row_at(s, at) {
             RowCut::Cut(cells, next) => {
-                let StepsLine::Step(kind, door, person) = line_of(s, cells) else {
+                let StepsLine::Step(kind, door, person) = steps_line_of(s, cells) else {
                     return Decoded {
                         answer: Answer::Done,
                         count,

@@ -2,12 +2,12 @@
 // theorems of them, are those of crate `steps_sheet`.
 ghost use mathlib.Core.Path.{_≡_};
 ghost use Rattle.steps_sheet.specs.Steps.{kindAt, kindFrom, personAt, stepsLineAt};
+use cell_meaning::Number;
 use cells::say::is_word;
 use cells::say::number_of;
 use grammar::cut::Cell;
 use grammar::cut::Cells;
 use phases::table::Kind;
-use saying::Number;
 use steps_sheet::StepsLine;
 
 // The step that a field names. Here and below a few words are tried at a time, in the paper's order, and the next function tries
@@ -83,7 +83,7 @@ fn person_of(s: &[u8], kind: Kind, cell: Cell) -> Number
 }
 
 // What a row with these cells says.
-pub fn line_of(s: &[u8], cells: Cells) -> StepsLine
+pub fn steps_line_of(s: &[u8], cells: Cells) -> StepsLine
     ensures { λ r. ⌜ r ≡ stepsLineAt (now (s .entry)) cells ⌝ }
 {
     if cells.count != 3 {

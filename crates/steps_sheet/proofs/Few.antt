@@ -15,7 +15,7 @@ use Rattle.steps_sheet.specs.Words.{StepWord, card, decide, green, red, 
 use Rattle.steps_sheet.specs.Says.{SaysStep, TextSaysSteps, nothing, a-step, bad-row, no-row-there}
 use Rattle.steps_sheet.specs.Steps.{stepsFrom}
 use Rattle.steps_sheet.specs.Lent.{mostIn}
-use Rattle.steps_sheet.proofs.Text.{text-says}
+use Rattle.steps_sheet.proofs.Text.{steps-said}
 
 -- a field has no fewer bytes than its content
 escape-long : (c : List ℕ) → length c ≤ length (escape c)
@@ -86,6 +86,6 @@ text-few (no-row-there some h) = omega arith
 
 pub steps-few : (s : List ℕ) (from : ℕ) → length (stepsFrom s from .rows) ≤ mostIn (length s)
 steps-few s from =
-    let few = text-few (text-says s from) in
+    let few = text-few (steps-said s from) in
     let l = length-drop from s in
     omega arith

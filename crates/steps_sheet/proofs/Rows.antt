@@ -11,15 +11,15 @@ use borrow.Author.Tests.{eq-eqb, eqb-true}
 use Rattle.tables.proofs.Laws.{clash}
 use Rattle.grammar.specs.declared.cut.Cell.{Cell}
 use Rattle.grammar.specs.declared.cut.Cells.{Cells}
-use Rattle.saying.specs.declared.Number.{Number}
-use Rattle.saying.specs.declared.Number.the-variants as number
+use Rattle.cell_meaning.specs.declared.Number.{Number}
+use Rattle.cell_meaning.specs.declared.Number.the-variants as number
 use Rattle.grammar.specs.Grammar.{Row, content, fields}
 use Rattle.grammar.specs.Where.{holdsQuote, fieldOf, RowHolds}
 use Rattle.grammar.specs.Sizes.{width}
-use Rattle.saying.specs.Say.{sameBytes, isWord, numberIn, numberAt, placeIn}
-use Rattle.saying.proofs.Saying.{same-true, proper-read, read-proper, number-small}
-use Rattle.saying.proofs.Contents.{word-same, number-same}
-use Rattle.saying.proofs.Naming.{NoQuotes, none, more, by-place, named-same}
+use Rattle.cell_meaning.specs.Say.{sameBytes, isWord, numberIn, numberAt, placeIn}
+use Rattle.cell_meaning.proofs.Saying.{same-true, proper-read, read-proper, number-small}
+use Rattle.cell_meaning.proofs.Contents.{word-same, number-same}
+use Rattle.cell_meaning.proofs.Naming.{NoQuotes, none, more, by-place, named-same}
 use Rattle.phases.specs.declared.table.Kind.{Kind}
 use Rattle.phases.specs.declared.table.Kind.the-variants.{Card, Decide, Green, Red, Walk, Tick, Passed, Lapsed, Dark, Ack, Unknown}
 use Rattle.phases.specs.Kinds.{StepRow, kindOf, namesPerson}
@@ -52,8 +52,8 @@ kindIn c = kindOf (placeIn stepWords c)
 personIn : Kind → List ℕ → Number
 personIn kind c = cond (namesPerson kind) (numberIn c) (cond (sameBytes c []) (number.Is 0) number.None)
 
-pub lineFrom : Row → StepsLine
-lineFrom r =
+pub stepFrom : Row → StepsLine
+stepFrom r =
     cond (eqb (length (fields r)) 3)
     (stepsLineOf (kindIn (content (fieldOf 0 r))) (numberIn (content (fieldOf 1 r))) (personIn (kindIn (content (fieldOf 0 r))) (content (fieldOf 2 r)))) Bad
 
@@ -79,8 +79,8 @@ module _ (s : List ℕ) {cells : Cells} (r : Row) (h : RowHolds s cells r) where
   unfolding personAt personIn holdsQuote
   person-same kind n = rw (word-same s (fieldOf 2 r) [] (h .third (omega arith)) refl, number-same s (fieldOf 2 r) (h .third (omega arith)))
 
-  pub line-same : stepsLineAt s cells ≡ lineFrom r
-  unfolding stepsLineAt lineFrom
+  pub line-same : stepsLineAt s cells ≡ stepFrom r
+  unfolding stepsLineAt stepFrom
   line-same = rw (← h .count) (go (eqb (cells .count) 3) refl)
     where
       go : (q : Bool) → eqb (cells .count) 3 ≡ q
@@ -146,8 +146,8 @@ told-person (nobody q) = rw q
 
 module _ (r : Row) where
   -- a row that is a step says it
-  pub says-line : {step : StepRow} → SaysStep r step → lineFrom r ≡ Step (step .kind) (step .at) (step .person)
-  unfolding lineFrom
+  pub says-line : {step : StepRow} → SaysStep r step → stepFrom r ≡ Step (step .kind) (step .at) (step .person)
+  unfolding stepFrom
   says-line h =
       let w = word-kind (h .word) in
       rw (eq-eqb _ 3 (h .three), w .0, proper-read _ (h .door), told-person (h .person-said), w .1)
@@ -156,8 +156,8 @@ module _ (r : Row) where
   bad-step : {k : Kind} {d p : ℕ} {A : Type 0} → Bad ≡ Step k d p → A
   bad-step e = let z : _≡_ {A = ℕ} 0 1 = cc in absurd (omega arith)
 
-  pub line-says : {k : Kind} {d p : ℕ} → lineFrom r ≡ Step k d p → SaysStep r (record { kind = k; at = d; person = p })
-  unfolding lineFrom
+  pub line-says : {k : Kind} {d p : ℕ} → stepFrom r ≡ Step k d p → SaysStep r (record { kind = k; at = d; person = p })
+  unfolding stepFrom
   line-says {k} {d} {p} e =
       go (eqb (length (fields r)) 3) refl (numberIn (content (fieldOf 1 r))) refl (personIn (kindIn (content (fieldOf 0 r))) (content (fieldOf 2 r))) refl
       (isStep (kindIn (content (fieldOf 0 r)))) refl
@@ -182,14 +182,14 @@ module _ (r : Row) where
           }
 
   -- a row of bad form says so, and no other
-  pub bad-line : BadForm r → lineFrom r ≡ Bad
-  bad-line bad = go (lineFrom r) refl
+  pub bad-line : BadForm r → stepFrom r ≡ Bad
+  bad-line bad = go (stepFrom r) refl
     where
-      go : (line : StepsLine) → lineFrom r ≡ line → line ≡ Bad
+      go : (line : StepsLine) → stepFrom r ≡ line → line ≡ Bad
       go (Step k d p) e = absurd (bad _ (line-says e))
       go Bad e = refl
 
-  pub line-bad : lineFrom r ≡ Bad → BadForm r
+  pub line-bad : stepFrom r ≡ Bad → BadForm r
   line-bad e step h = bad-step (sym e ∙ says-line h)
 
 -- a person that is told is a small number, as every number is

@@ -20,7 +20,7 @@ use Rattle.grammar.specs.Where.{holdsQuote, RowHolds}
 use Rattle.grammar.proofs.Reading.{cut-there, rows-next}
 use Rattle.grammar.proofs.Unique.{row-unique, no-row-at}
 use Rattle.grammar.proofs.Exact.{cut-is-row, rest-shorter, no-row-end, broken-some, broken-none}
-use Rattle.saying.proofs.Contents.{words-exact}
+use Rattle.cell_meaning.proofs.Contents.{words-exact}
 use Rattle.phases.specs.Kinds.{StepRow}
 use Rattle.steps_sheet.specs.declared.StepsLine.{StepsLine}
 use Rattle.steps_sheet.specs.declared.StepsLine.the-variants.{Step, Bad}
@@ -29,7 +29,7 @@ use Rattle.steps_sheet.specs.declared.Heading.the-variants.{Rows}
 use Rattle.steps_sheet.specs.Words.{stepHead, doorHead, personHead}
 use Rattle.steps_sheet.specs.Says.{Steps, SaysStep, TextSaysSteps, nothing, a-step, bad-row, no-row-there, StepsHeaderRow, HeadingSays, too-long, wrong, rows-at}
 use Rattle.steps_sheet.specs.Steps.{stepsLineAt, stepsHeaderAt, headed, headingAt, before, stepsIn, stepsFrom}
-use Rattle.steps_sheet.proofs.Rows.{lineFrom, line-same, says-line, line-says, line-bad}
+use Rattle.steps_sheet.proofs.Rows.{stepFrom, line-same, says-line, line-says, line-bad}
 
 -- ---- the steps
 
@@ -38,7 +38,7 @@ abbrev Said : List ℕ → Steps → Type 0
 Said text steps = TextSaysSteps text (steps .rows) (steps .whole)
 
 module _ (s : List ℕ) (at : ℕ) where
-  row-turn : {r : Row} {rest : List ℕ} (line : StepsLine) → RowAt (drop at s) r rest → lineFrom r ≡ line → (steps : Steps) → Said rest steps
+  row-turn : {r : Row} {rest : List ℕ} (line : StepsLine) → RowAt (drop at s) r rest → stepFrom r ≡ line → (steps : Steps) → Said rest steps
       → Said (drop at s) (before line steps)
   row-turn {r} (Step k d p) a e steps more = a-step a (line-says r e) more
   row-turn {r} Bad a e steps more = bad-row a (line-bad r e)
@@ -57,40 +57,40 @@ says-most : (s : List ℕ) (most at : ℕ) → length s - at < most → Said (dr
 says-most s zero at h = absurd (omega arith)
 says-most s (suc most) at h = rw (rows-next s at) (turn s at (cutRow s at) refl (λ next l w. says-most s most next (omega arith)))
 
-pub text-says : (s : List ℕ) (at : ℕ) → Said (drop at s) (stepsFrom s at)
-text-says s at = says-most s (suc (length s - at)) at (omega arith)
+pub steps-said : (s : List ℕ) (at : ℕ) → Said (drop at s) (stepsFrom s at)
+steps-said s at = says-most s (suc (length s - at)) at (omega arith)
 
 -- a row says one step, so that a text says one list of steps
 step-unique : {r r′ : Row} {x y : StepRow} → r ≡ r′ → SaysStep r x → SaysStep r′ y → x ≡ y
 step-unique {r} {r′} {x} {y} e a b =
-    let z : Step (x .kind) (x .at) (x .person) ≡ Step (y .kind) (y .at) (y .person) = sym (says-line r a) ∙ ap lineFrom e ∙ says-line r′ b in
+    let z : Step (x .kind) (x .at) (x .person) ≡ Step (y .kind) (y .at) (y .person) = sym (says-line r a) ∙ ap stepFrom e ∙ says-line r′ b in
     let k : x .kind ≡ y .kind = cc in
     let d : x .at ≡ y .at = cc in
     let p : x .person ≡ y .person = cc in
     λ i. record { kind = k i; at = d i; person = p i }
 
-pub text-unique : {text text′ : List ℕ} {xs ys : List StepRow} {p q : Bool} → TextSaysSteps text xs p → TextSaysSteps text′ ys q → text ≡ text′
+pub steps-unique : {text text′ : List ℕ} {xs ys : List StepRow} {p q : Bool} → TextSaysSteps text xs p → TextSaysSteps text′ ys q → text ≡ text′
     → (xs ≡ ys) × (p ≡ q)
-text-unique nothing nothing e = (refl, refl)
-text-unique nothing (a-step a x t) e = absurd (no-row-at a e)
-text-unique nothing (bad-row a x) e = absurd (no-row-at a e)
-text-unique nothing (no-row-there n m) e = absurd (n (sym e))
-text-unique (a-step a x t) nothing e = absurd (no-row-at a (sym e))
-text-unique (a-step a x t) (a-step b y u) e =
+steps-unique nothing nothing e = (refl, refl)
+steps-unique nothing (a-step a x t) e = absurd (no-row-at a e)
+steps-unique nothing (bad-row a x) e = absurd (no-row-at a e)
+steps-unique nothing (no-row-there n m) e = absurd (n (sym e))
+steps-unique (a-step a x t) nothing e = absurd (no-row-at a (sym e))
+steps-unique (a-step a x t) (a-step b y u) e =
     let k = row-unique a b e in
-    let rest = text-unique t u (k .behind) in
+    let rest = steps-unique t u (k .behind) in
     let first = step-unique (k .first) x y in
     ((λ i. first i ∷ rest .0 i), rest .1)
-text-unique (a-step {step = step} a x t) (bad-row b y) e = let k = row-unique a b e in absurd (y step (rw (k .first) at x))
-text-unique (a-step {r = r} {rest = rest} a x t) (no-row-there n m) e = absurd (m r rest (rw e at a))
-text-unique (bad-row a x) nothing e = absurd (no-row-at a (sym e))
-text-unique (bad-row a x) (a-step {step = step} b y u) e = let k = row-unique a b e in absurd (x step (rw (← k .first) at y))
-text-unique (bad-row a x) (bad-row b y) e = (refl, refl)
-text-unique (bad-row {r = r} {rest = rest} a x) (no-row-there n m) e = absurd (m r rest (rw e at a))
-text-unique (no-row-there n m) nothing e = absurd (n e)
-text-unique (no-row-there n m) (a-step {r = r} {rest = rest} b y u) e = absurd (m r rest (rw (sym e) at b))
-text-unique (no-row-there n m) (bad-row {r = r} {rest = rest} b y) e = absurd (m r rest (rw (sym e) at b))
-text-unique (no-row-there n m) (no-row-there n′ m′) e = (refl, refl)
+steps-unique (a-step {step = step} a x t) (bad-row b y) e = let k = row-unique a b e in absurd (y step (rw (k .first) at x))
+steps-unique (a-step {r = r} {rest = rest} a x t) (no-row-there n m) e = absurd (m r rest (rw e at a))
+steps-unique (bad-row a x) nothing e = absurd (no-row-at a (sym e))
+steps-unique (bad-row a x) (a-step {step = step} b y u) e = let k = row-unique a b e in absurd (x step (rw (← k .first) at y))
+steps-unique (bad-row a x) (bad-row b y) e = (refl, refl)
+steps-unique (bad-row {r = r} {rest = rest} a x) (no-row-there n m) e = absurd (m r rest (rw e at a))
+steps-unique (no-row-there n m) nothing e = absurd (n e)
+steps-unique (no-row-there n m) (a-step {r = r} {rest = rest} b y u) e = absurd (m r rest (rw (sym e) at b))
+steps-unique (no-row-there n m) (bad-row {r = r} {rest = rest} b y) e = absurd (m r rest (rw (sym e) at b))
+steps-unique (no-row-there n m) (no-row-there n′ m′) e = (refl, refl)
 
 -- ---- the heading
 

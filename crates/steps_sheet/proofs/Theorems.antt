@@ -34,13 +34,13 @@ module _ (s : List ℕ) {cells : Cells} (r : Row) (h : RowHolds s cells r) where
 
 -- A text says one list of steps.
 pub one-list-of-steps : {text : List ℕ} {xs ys : List StepRow} {p q : Bool} → TextSaysSteps text xs p → TextSaysSteps text ys q → (xs ≡ ys) × (p ≡ q)
-one-list-of-steps a b = text.text-unique a b refl
+one-list-of-steps a b = text.steps-unique a b refl
 
 -- The steps that are read from a position on are exactly those that the text from there says; so every text says some.
 pub steps-exactly : (s : List ℕ) (from : ℕ) (steps : Steps) → (stepsFrom s from ≡ steps) ↔ TextSaysSteps (drop from s) (steps .rows) (steps .whole)
 steps-exactly s from steps = (
-  (λ e. subst (λ (x : Steps). TextSaysSteps (drop from s) (x .rows) (x .whole)) e (text.text-says s from)),
-  (λ t. let u = text.text-unique (text.text-says s from) t refl in λ i. record { rows = u .0 i; whole = u .1 i }),
+  (λ e. subst (λ (x : Steps). TextSaysSteps (drop from s) (x .rows) (x .whole)) e (text.steps-said s from)),
+  (λ t. let u = text.steps-unique (text.steps-said s from) t refl in λ i. record { rows = u .0 i; whole = u .1 i }),
 )
 
 -- The heading is told as too long, wrong, or with the data rows behind it, exactly when it is so.

@@ -7,8 +7,8 @@ use mathlib.Core.List.{List, [], _∷_}
 use lib.ListN.{length}
 use Rattle.grammar.specs.Grammar.{Row, RowAt, content, fields}
 use Rattle.grammar.specs.Where.{fieldOf}
-use Rattle.saying.specs.Say.{ProperNumber}
-use Rattle.saying.specs.Meaning.{Threefold}
+use Rattle.cell_meaning.specs.Say.{ProperNumber}
+use Rattle.cell_meaning.specs.Meaning.{Threefold}
 use Rattle.phases.specs.declared.table.Kind.{Kind}
 use Rattle.phases.specs.Kinds.{StepRow, namesPerson}
 use Rattle.steps_sheet.specs.declared.Heading.{Heading}

@@ -5,7 +5,7 @@ use mathlib.Core.Bool.{Bool, true, false, cond}
 use mathlib.Core.List.{List, [], _∷_}
 use lib.ListN.{length, drop}
 use lib.Dec.{ltb, eqb}
-use Rattle.saying.specs.Say.{isWord, saysWords, numberAt, namedFrom}
+use Rattle.cell_meaning.specs.Say.{isWord, saysWords, numberAt, namedFrom}
 use Rattle.grammar.specs.Cut.{cutRow}
 use Rattle.grammar.specs.Rows.{Rows, no-more, broken, row, rowsFrom}
 use Rattle.grammar.specs.Sizes.{limit}
@@ -13,8 +13,8 @@ use Rattle.grammar.specs.declared.cut.Cell.{Cell}
 use Rattle.grammar.specs.declared.cut.Cells.{Cells}
 use Rattle.grammar.specs.declared.cut.RowCut.{RowCut}
 use Rattle.grammar.specs.declared.cut.RowCut.the-variants.{Cut, NoRow, Broken}
-use Rattle.saying.specs.declared.Number.{Number}
-use Rattle.saying.specs.declared.Number.the-variants.{Is, None}
+use Rattle.cell_meaning.specs.declared.Number.{Number}
+use Rattle.cell_meaning.specs.declared.Number.the-variants.{Is, None}
 use Rattle.phases.specs.declared.table.Kind.{Kind}
 use Rattle.phases.specs.declared.table.Kind.the-variants.{Card}
 use Rattle.phases.specs.Kinds.{kindOf, numberOfKind, namesPerson}

@@ -14,9 +14,11 @@ pub enum Heading {
     Rows(usize),
 }
 
-// What a row says: the step, its door and its person; or it is of bad form.
+// What a row says.
 pub enum StepsLine {
+    // a step of this kind at this door, with this person, 0 where the row has none
     Step(Kind, u16, u16),
+    // a row of bad form
     Bad,
 }
 

@@ -79,5 +79,5 @@ of-rules =
       first-no-right = rule-9;
       first-shut-out = rule-10;
       lawful = lawful-tells;
-      way-out = λ locations exit from list. way-tells (wayOf locations exit from) list (way-at-most locations exit from);
+      way-by-exits = λ locations exit from list. way-tells (wayOf locations exit from) list (way-at-most locations exit from);
     }

@@ -20,7 +20,7 @@ rules-unique =
       first-no-right = λ people locations exit right x y a b. a 0 [] [] ∙ sym (b 0 [] []);
       first-shut-out = λ people doors origin destination right x y a b. a 0 [] ∙ sym (b 0 []);
       lawful = λ most site right. alone;
-      way-out = λ locations exit from list. beside;
+      way-by-exits = λ locations exit from list. beside;
     }
 
 pub door-unique : DoorUnique

@@ -7,8 +7,8 @@ use mathlib.Core.List.{List, [], _∷_, _++_}
 use mathlib.Core.Logic.{_⊎_, _↔_}
 use lib.ListN.{length, getD, set, drop}
 use Rattle.numbers.specs.Numbers.{doneNo, noSuchNo, notAllowedNo, tooShortNo, unsoundNo}
-use Rattle.told.specs.declared.Found.the-variants.{At}
-use Rattle.told.specs.declared.WayTold.the-variants.{Length, TooShort}
+use Rattle.findings.specs.declared.Found.the-variants.{At}
+use Rattle.findings.specs.declared.WayTold.the-variants.{Length, TooShort}
 use Rattle.tables.specs.Tables.{Plan, rightAt, mayBe, mostLocations}
 use Rattle.tables.specs.Below.{Tells, Answers, AnswersPair}
 use Rattle.tables.specs.Rules.{PlanInRange, FirstLocation, ExitDoor, ExitRight, Lawful}
@@ -68,7 +68,7 @@ pub record RulesAnswers : Type 0 where
   pub first-no-right : (site : Plan) (right : List Bool) → AnswersPair (firstNoRight site right) (ExitRight site right) (site .people) (site .locations)
   pub first-shut-out : (site : Plan) (right : List Bool) → Answers (firstShutOut site right) (FirstLocation site right) (site .people)
   pub lawful : (most : ℕ) (site : Plan) (right : List Bool) → Tells (lawfulB most site right) (Lawful most site right)
-  pub way-out : (locations : ℕ) (exit : List ℕ) (from : ℕ) (list : List ℕ) → WayTells (wayOf locations exit from) list
+  pub way-by-exits : (locations : ℕ) (exit : List ℕ) (from : ℕ) (list : List ℕ) → WayTells (wayOf locations exit from) list
 
 -- ---- crates `phases`, `door`, `door_fits` and `door_does`
 

@@ -5,9 +5,9 @@ use mathlib.Core.Path.{_≡_}
 use mathlib.Core.Bool.{Bool}
 use mathlib.Core.List.{List}
 use lib.ListN.{getD, set}
-use Rattle.told.specs.declared.Found.{Found}
-use Rattle.told.specs.declared.RightFound.{RightFound}
-use Rattle.told.specs.declared.WayTold.{WayTold}
+use Rattle.findings.specs.declared.Found.{Found}
+use Rattle.findings.specs.declared.RightFound.{RightFound}
+use Rattle.findings.specs.declared.WayTold.{WayTold}
 use Rattle.tables.specs.Tables.{Plan, plan, mayBe}
 use Rattle.tables.specs.Tests.{planInRange, firstNoExit, firstStray, firstNoDoor, firstNoRight, firstShutOut, lawfulB}
 use Rattle.tables.specs.Way.{wayOf, wayToldIn, wayWrittenIn}
@@ -45,7 +45,7 @@ pub record RulesUnique : Type 0 where
       → Unique (λ (x : Found). (locations : ℕ) (exit : List ℕ) → x ≡ firstShutOut (plan people locations doors origin destination exit) right)
   pub lawful : (most : ℕ) (site : Plan) (right : List Bool) → Unique (λ (x : Bool). x ≡ lawfulB most site right)
   -- the answer, and the lent list at exit
-  pub way-out : (locations : ℕ) (exit : List ℕ) (from : ℕ) (list : List ℕ)
+  pub way-by-exits : (locations : ℕ) (exit : List ℕ) (from : ℕ) (list : List ℕ)
       → Unique (λ (x : WayTold × List ℕ). (x .0 ≡ wayToldIn (wayOf locations exit from) list) × (x .1 ≡ wayWrittenIn (wayOf locations exit from) list))
 
 pub record DoorUnique : Type 0 where

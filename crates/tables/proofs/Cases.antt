@@ -59,9 +59,9 @@ pub chain-within : (x y : ℕ) (v b : Bool) → x ≤ y → v ≡ b → v ≡ an
 unfolding andAlso
 chain-within x y v b h q = rw (le-leb x y h) q
 
-pub ruleset chain = (needs, and-stop, and-on, chain-above, chain-within)
+pub ruleset test-chain = (needs, and-stop, and-on, chain-above, chain-within)
 
-pub ruleset chain-told = (chain, chain-differs, chain-equal)
+pub ruleset chain-told = (test-chain, chain-differs, chain-equal)
 
 -- ---- a choice that a test decides; r is what the code's test told
 

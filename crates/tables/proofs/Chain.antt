@@ -10,8 +10,8 @@ use borrow.Author.Needs.{needs}
 use borrow.Author.Tests.{not-true, not-false, lt-ltb}
 use Rattle.tables.specs.Tables.{andAlso}
 use Rattle.tables.specs.Below.{isNothing, noPair}
-use Rattle.told.specs.declared.Found.{Found}
-use Rattle.told.specs.declared.RightFound.{RightFound}
+use Rattle.findings.specs.declared.Found.{Found}
+use Rattle.findings.specs.declared.RightFound.{RightFound}
 
 pub and-stop : (a b r : Bool) → r ≡ a → not r ≡ true → false ≡ andAlso a b
 unfolding andAlso

@@ -17,10 +17,10 @@ use lib.Dec.{ltb, leb, eqb}
 use Rattle.tables.specs.Tables.{orElse, andAlso, mayBe}
 use Rattle.tables.specs.Below.{allBelow, someBelow, orAt, leastBelow, withLocation, locationOf, leastPair, isNothing, noPair}
 use Rattle.tables.specs.Below.{Tells, Answers, SmallestPair, AnswersPair}
-use Rattle.told.specs.declared.Found.{Found}
-use Rattle.told.specs.declared.Found.the-variants as found
-use Rattle.told.specs.declared.RightFound.{RightFound}
-use Rattle.told.specs.declared.RightFound.the-variants as pair
+use Rattle.findings.specs.declared.Found.{Found}
+use Rattle.findings.specs.declared.Found.the-variants as found
+use Rattle.findings.specs.declared.RightFound.{RightFound}
+use Rattle.findings.specs.declared.RightFound.the-variants as pair
 
 -- ---- tests
 
@@ -48,9 +48,9 @@ or-right true b p = refl
 or-right false b p = p
 
 -- a test that isn't true is false
-pub denied : (b : Bool) → (b ≡ true → ⊥) → b ≡ false
-denied true no-way = absurd (no-way refl)
-denied false no-way = refl
+pub not-so : (b : Bool) → (b ≡ true → ⊥) → b ≡ false
+not-so true no-way = absurd (no-way refl)
+not-so false no-way = refl
 
 pub clash : {A : Type 0} {b : Bool} → b ≡ true → b ≡ false → A
 clash p q = absurd (true≢false (sym p ∙ q))
@@ -92,10 +92,10 @@ module _ (test : ℕ → Bool) where
       (λ lt p. or-left (someBelow test n) (test n) (some-back n k lt p)) h e
 
   pub some-none : (n : ℕ) → ((k : ℕ) → k < n → test k ≡ false) → someBelow test n ≡ false
-  some-none n clear = denied (someBelow test n) (λ e. let r = some-yes n e in clash (r .2) (clear (r .0) (r .1)))
+  some-none n clear = not-so (someBelow test n) (λ e. let r = some-yes n e in clash (r .2) (clear (r .0) (r .1)))
 
   pub none-some : (n : ℕ) → someBelow test n ≡ false → (k : ℕ) → k < n → test k ≡ false
-  none-some n e k h = denied (test k) (λ p. clash (some-back n k h p) e)
+  none-some n e k h = not-so (test k) (λ p. clash (some-back n k h p) e)
 
   -- ---- the least below n
 

@@ -13,8 +13,8 @@ use borrow.Author.Count.{below-more}
 use borrow.Author.Needs.{needs}
 use borrow.Author.Tests.{not-true, not-false}
 use Rattle.tables.specs.Below.{allBelow, someBelow, leastBelow}
-use Rattle.told.specs.declared.Found.the-variants.{At, Nothing}
-use Rattle.tables.proofs.Laws.{clash, denied, all-yes, all-back, some-back, some-none, at-least, none-least}
+use Rattle.findings.specs.declared.Found.the-variants.{At, Nothing}
+use Rattle.tables.proofs.Laws.{clash, not-so, all-yes, all-back, some-back, some-none, at-least, none-least}
 
 -- the loop has come to i of n, and the test answered `seen` at every number before i
 pub record Scan (test : ℕ → Bool) (seen : Bool) (n i : ℕ) : Type 0 where
@@ -40,7 +40,7 @@ module _ {test : ℕ → Bool} {n i : ℕ} (r : Bool) where
   all-on s h e q = scan-on s h e (not-false r q)
 
   pub all-here : Scan test true n i → i < n → r ≡ test i → not r ≡ true → false ≡ allBelow test n
-  all-here s h e q = sym (denied (allBelow test n) (λ all. clash (all-yes test n all i h) (sym e ∙ not-true r q)))
+  all-here s h e q = sym (not-so (allBelow test n) (λ all. clash (all-yes test n all i h) (sym e ∙ not-true r q)))
 
 module _ {test : ℕ → Bool} {n i : ℕ} where
   pub least-end : Scan test false n i → n ≤ i → Nothing ≡ leastBelow test n

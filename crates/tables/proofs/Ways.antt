@@ -16,9 +16,9 @@ use borrow.Author.Tests.{leb-true, le-leb, lt-leb}
 use lib.ListN.{length, getD, set, drop}
 use lib.Seq.{sets, sets-eq}
 use lib.Dec.{leb}
-use Rattle.tables.proofs.Laws.{clash, denied}
+use Rattle.tables.proofs.Laws.{clash, not-so}
 use Rattle.tables.specs.Way.{Way, outside, onward, unlessOutside, wayOut, ifRoom, wayToldIn, wayWrittenIn}
-use Rattle.told.specs.declared.WayTold.the-variants.{Length, TooShort}
+use Rattle.findings.specs.declared.WayTold.the-variants.{Length, TooShort}
 
 -- ---- one step
 
@@ -130,7 +130,7 @@ near-back {exit} {k} {w} way d h = rw (way-found way (suc d) (omega arith), le-l
 
 near-long : {exit : List ℕ} {k : ℕ} {w : List ℕ} → Way exit k w → (d : ℕ) → d < length w → near exit d k ≡ false
 unfolding near
-near-long {exit} {k} {w} way d h = denied (near exit d k) λ e.
+near-long {exit} {k} {w} way d h = not-so (near exit d k) λ e.
     let same = ap length (way-unique way (near-yes exit d k e)) in
     let short = leb-true (length (wayOut (suc d) exit k)) d e in
     omega arith

@@ -4,10 +4,10 @@ use Prim.Native.Nat.{ℕ, zero, suc, _<_}
 use mathlib.Core.Path.{_≡_}
 use mathlib.Core.Bool.{Bool, true, false}
 use Rattle.tables.specs.Tables.{orElse, andAlso}
-use Rattle.told.specs.declared.Found.{Found}
-use Rattle.told.specs.declared.Found.the-variants as found
-use Rattle.told.specs.declared.RightFound.{RightFound}
-use Rattle.told.specs.declared.RightFound.the-variants as pair
+use Rattle.findings.specs.declared.Found.{Found}
+use Rattle.findings.specs.declared.Found.the-variants as found
+use Rattle.findings.specs.declared.RightFound.{RightFound}
+use Rattle.findings.specs.declared.RightFound.the-variants as pair
 
 -- every number below n passes the test
 unfoldable pub allBelow : (ℕ → Bool) → ℕ → Bool

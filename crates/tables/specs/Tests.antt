@@ -8,8 +8,8 @@ use lib.Dec.{ltb, leb, eqb}
 use Rattle.tables.specs.Tables.{Plan, mayBe, andAlso, mostLocations, mostDoors}
 use Rattle.tables.specs.Below.{allBelow, someBelow, leastBelow, leastPair, isNothing, noPair}
 use Rattle.tables.specs.Way.{unvisited, wayOut}
-use Rattle.told.specs.declared.Found.{Found}
-use Rattle.told.specs.declared.RightFound.{RightFound}
+use Rattle.findings.specs.declared.Found.{Found}
+use Rattle.findings.specs.declared.RightFound.{RightFound}
 
 -- 3: a door is from a location to another one
 unfoldable pub doorInRange : ℕ → List ℕ → List ℕ → ℕ → Bool

@@ -6,8 +6,8 @@ use mathlib.Core.List.{List, [], _∷_, _++_}
 use lib.ListN.{getD, length, drop}
 use lib.Dec.{leb}
 use Rattle.tables.specs.Tables.{mostLocations}
-use Rattle.told.specs.declared.WayTold.{WayTold}
-use Rattle.told.specs.declared.WayTold.the-variants.{Length, TooShort}
+use Rattle.findings.specs.declared.WayTold.{WayTold}
+use Rattle.findings.specs.declared.WayTold.the-variants.{Length, TooShort}
 
 -- "The way out of a location is its exit followed by the way out of that exit, and nothing for location 0."
 pub data Way (exit : List ℕ) : ℕ → List ℕ → Type 0 where

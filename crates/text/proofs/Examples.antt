@@ -5,9 +5,9 @@ use Rattle.text.specs.Wrote.{behind}
 use Rattle.text.specs.Printed.{fitsIn, printedOf, written}
 use Rattle.text.specs.Examples.{TextExamples}
 
-pub examples : TextExamples
+pub text-examples : TextExamples
 unfolding digits decimal rowOfNumbers behind fitsIn printedOf written
-examples =
+text-examples =
     record {
       numbers-written = (refl, refl, refl, refl);
       rows-written = (refl, refl);

@@ -7,8 +7,8 @@ use native.Mathlib.Omega.{arith}
 use borrow.Author.Tests.{le-leb, lt-leb}
 use lib.ListN.{length}
 use lib.Seq.{sets}
-use Rattle.told.specs.declared.Printed.{Printed}
-use Rattle.told.specs.declared.Printed.the-variants.{Text, TooShort}
+use Rattle.findings.specs.declared.Printed.{Printed}
+use Rattle.findings.specs.declared.Printed.the-variants.{Text, TooShort}
 use Rattle.text.specs.Wrote.{lastPlace, behind, Wrote}
 use Rattle.text.specs.Printed.{fitsIn, printedOf, written, Prints}
 use Rattle.text.proofs.Writing.{sets-past}

@@ -1,11 +1,11 @@
 -- Small texts: numbers at the ends of their widths, rows, a text in lists of three lengths.
 use mathlib.Core.Path.{_≡_}
 use mathlib.Core.List.{[], _∷_}
-use Rattle.told.specs.declared.Printed.the-variants.{Text, TooShort}
+use Rattle.findings.specs.declared.Printed.the-variants.{Text, TooShort}
 use Rattle.text.specs.Text.{decimal, rowOfNumbers}
 use Rattle.text.specs.Wrote.{lastPlace, behind}
 use Rattle.text.specs.Printed.{printedOf, written}
-use Rattle.told.specs.Told.{printedNo}
+use Rattle.findings.specs.Told.{printedNo}
 
 pub record TextExamples : Type 0 where
   -- 0, 9, 10 and 307: no number begins with a needless zero

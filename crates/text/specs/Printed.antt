@@ -6,8 +6,8 @@ use mathlib.Core.List.{List}
 use lib.ListN.{length}
 use lib.Seq.{sets}
 use lib.Dec.{leb}
-use Rattle.told.specs.declared.Printed.{Printed}
-use Rattle.told.specs.declared.Printed.the-variants.{Text, TooShort}
+use Rattle.findings.specs.declared.Printed.{Printed}
+use Rattle.findings.specs.declared.Printed.the-variants.{Text, TooShort}
 
 unfoldable pub fitsIn : List ℕ → List ℕ → Bool
 fitsIn text out = leb (length text) (length out)

@@ -6,12 +6,12 @@
 // sheets, and from the papers' reference what is expected.
 use blank_lists::blank_panel_text;
 use blank_lists::blank_sheet;
+use findings::Printed;
 use libc::STDOUT_FILENO;
 use run::texts::panel_text;
 use run::texts::where_text;
 use sheet_files::read_sheet;
 use site::read_site;
-use told::Printed;
 
 // The longest steps sheet whose texts also go into lists of their own length, and room for those.
 const MOST_SHORT: usize = 1024;

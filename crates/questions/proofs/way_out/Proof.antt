@@ -18,8 +18,8 @@ returns-2 : tie.Need-returns-2
 unfolding wayAnswerOf wayWritten
 returns-2 c = way-as-said _ _ _ _ _ (search picks depth 7) (search picks depth 7)
 
-way-out-requires : tie.Need-way-out-requires
-way-out-requires c κs = search needs
+way-by-exits-requires : tie.Need-way-by-exits-requires
+way-by-exits-requires c κs = search needs
 
 way-told-requires : tie.Need-way-told-requires
 way-told-requires c κs = search needs
@@ -30,8 +30,8 @@ same-length c = search needs
 returns-3 : tie.Need-returns-3
 unfolding wayAnswerOf wayWritten
 returns-3 c =
-    let told = c .way-told .ensures ∙ ap wayFound (c .before .before .before .way-out .ensures .0) in
-    let written = c .before .before .before .way-out .ensures .1 in
+    let told = c .way-told .ensures ∙ ap wayFound (c .before .before .before .way-by-exits .ensures .0) in
+    let written = c .before .before .before .way-by-exits .ensures .1 in
     way-as-said _ _ _ _ _ (search picks depth 7) (search picks depth 7)
 
 pub way-out-spec : {M : Type 1} → statement M
@@ -41,7 +41,7 @@ way-out-spec =
     is-sound-requires
     returns
     returns-2
-    way-out-requires
+    way-by-exits-requires
     way-told-requires
     same-length
     returns-3)

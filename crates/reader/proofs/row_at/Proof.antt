@@ -40,7 +40,7 @@ use Rattle.grammar.specs.Cut.{cutRow}
 use Rattle.reader.specs.Reader.{readerAt}
 use Rattle.reader.specs.declared.Reader.{Reader}
 use Rattle.grammar.specs.declared.cut.RowCut.{RowCut}
-use Rattle.reader.proofs.Held.{Row, fields, OwnFields, fields-twice, Asked, asked}
+use Rattle.reader.proofs.Held.{ReaderRow, readerFields, OwnFields, fields-twice, Asked, asked}
 use Rattle.reader.proofs.Reader as T
 use Rattle.reader.proofs.Reader.Laws as T′
 use Rattle.grammar.proofs.cut.RowCut as S
@@ -82,14 +82,14 @@ module _ {M : Type 1} (𝓤 : URA M) (H : Heap 𝓤) (A : Atoms 𝓤) (W : Given
   αᵉ = record { mir = erased; lft = κ }
 
   abbrev Entry : SProp 𝓤
-  Entry = onEntry 𝓤 H A row-at.signature (κ, tt) (q, tt) (d .sheet, (d .at, tt)) (fields d)
+  Entry = onEntry 𝓤 H A row-at.signature (κ, tt) (q, tt) (d .sheet, (d .at, tt)) (readerFields d)
 
   abbrev Post : Val → SProp 𝓤
-  Post = walkOf 𝓤 H A row-at.ended stayed (row-at.clauses 𝓤 H A mem run) .post (((κ, tt), (q, tt), tt, (d .sheet, (d .at, tt)), fields d), tt)
+  Post = walkOf 𝓤 H A row-at.ended stayed (row-at.clauses 𝓤 H A mem run) .post (((κ, tt), (q, tt), tt, (d .sheet, (d .at, tt)), readerFields d), tt)
 
   -- the call of `at_byte`
   abbrev to-at-byte : AtByte 𝓤 H A mem run .Ghost
-  to-at-byte = (((κ, tt), (q, tt), tt, (d .sheet, (d .at, tt)), fields d), tt)
+  to-at-byte = (((κ, tt), (q, tt), tt, (d .sheet, (d .at, tt)), readerFields d), tt)
 
   goes-in : ent 𝓤 Entry (sep 𝓤 (Asked 𝓤 H A W κ d q) (sem 𝓤 H A (OwnFields κ d)))
   goes-in =
@@ -104,8 +104,8 @@ module _ {M : Type 1} (𝓤 : URA M) (H : Heap 𝓤) (A : Atoms 𝓤) (W : Given
   abbrev to-row : Reader → Val → TheRow 𝓤 H A mem run .Ghost
   to-row r u = (((κ, tt), (q, tt), tt, (r, tt), (u ∷ [], tt)), tt)
 
-  goes-on : (r : Reader) (u : Val) → ent 𝓤 (⋆ 𝓤 H A (‵ (Row (κ, tt) .own r (u ∷ [])) ∷ (‵ (flft κ q) ⊛ ‵ ftrue) ∷ [])) (TheRow 𝓤 H A mem run .pre (to-row r u))
-  goes-on r u = qed W (‵ (Row (κ, tt) .own r (u ∷ [])) ∷ (‵ (flft κ q) ⊛ ‵ ftrue) ∷ []) ∵ nothing ! $ move ! (1 ∷ 0 ∷ []) $ fjoin ! $ move ! (1 ∷ 0 ∷ []) $ join ! $ frame ! $ done !
+  goes-on : (r : Reader) (u : Val) → ent 𝓤 (⋆ 𝓤 H A (‵ (ReaderRow (κ, tt) .own r (u ∷ [])) ∷ (‵ (flft κ q) ⊛ ‵ ftrue) ∷ [])) (TheRow 𝓤 H A mem run .pre (to-row r u))
+  goes-on r u = qed W (‵ (ReaderRow (κ, tt) .own r (u ∷ [])) ∷ (‵ (flft κ q) ⊛ ‵ ftrue) ∷ []) ∵ nothing ! $ move ! (1 ∷ 0 ∷ []) $ fjoin ! $ move ! (1 ∷ 0 ∷ []) $ join ! $ frame ! $ done !
 
   row-said : (r : Reader) (t : RowCut) → ent 𝓤 (ensured 𝓤 H A row.ended (row.clauses 𝓤 H A mem run) (κ, tt) (r, tt) tt t) (fact 𝓤 (t ≡ rowOf r))
   row-said r t = exE 𝓤 _ (λ ws. snd∗ 𝓤 (sem 𝓤 H A (lasts row.ended (κ, tt) (r, tt) ws)) (fact 𝓤 (t ≡ rowOf r)))
@@ -113,7 +113,7 @@ module _ {M : Type 1} (𝓤 : URA M) (H : Heap 𝓤) (A : Atoms 𝓤) (W : Given
   exits : (t : RowCut) (u : Val) → t ≡ rowOf d → ent 𝓤 (⋆ 𝓤 H A (‵ (S.the-row .own t (u ∷ [])) ∷ (‵ (flft κ q) ⊛ ‵ ftrue) ∷ ‵ (OwnFields κ d) ∷ [])) (Post u)
   exits t u e =
       qed W (‵ (S.the-row .own t (u ∷ [])) ∷ (‵ (flft κ q) ⊛ ‵ ftrue) ∷ ‵ (OwnFields κ d) ∷ []) ∵
-      suffices ! _ (ends-at 𝓤 H A row-at.ended stayed (row-at.clauses 𝓤 H A mem run) W (((κ, tt), (q, tt), tt, (d .sheet, (d .at, tt)), fields d), tt) u t (tt, (tt, tt)) (tt, (tt, tt))) $ says ! e $
+      suffices ! _ (ends-at 𝓤 H A row-at.ended stayed (row-at.clauses 𝓤 H A mem run) W (((κ, tt), (q, tt), tt, (d .sheet, (d .at, tt)), readerFields d), tt) u t (tt, (tt, tt)) (tt, (tt, tt))) $ says ! e $
       move ! (1 ∷ []) $ frame ! $ move ! (1 ∷ []) $ frame ! $ done !
 
   module _ (C : Calls 𝓤 H) (Λ : Loops 𝓤 H) (fm : FmC 𝓤 H (W .laws) C) (known-at-byte : Triple 𝓤 (C #at-byte) (AtByte 𝓤 H A mem run)) (known-row : Triple 𝓤 (C #row) (TheRow 𝓤 H A mem run)) where
@@ -125,10 +125,10 @@ module _ {M : Type 1} (𝓤 : URA M) (H : Heap 𝓤) (A : Atoms 𝓤) (W : Given
         -- [room for _3; …; _2; …; _1; …; room for _0; …; the token and what the two own]
         move ! (8 ∷ []) $ use1 W (raw (AtByte 𝓤 H A mem run .pre to-at-byte) ⊛ ‵ (OwnFields κ d)) goes-in $ split ! $
         calls-at ! fm (AtByte 𝓤 H A mem run) known-at-byte to-at-byte (and-then ! (load ! (from ! (stop !)) (look ! 6 refl)) (and-then ! (load ! (from ! (stop !)) (look ! 4 refl)) (no-more !))) (λ u.
-        use1 W (later (some (λ (r : Reader). ((‵ (flft κ q) ⊛ ‵ ftrue) ⊛ ‵ (Row (κ, tt) .own r (u ∷ []))) ⊛ raw (ensured 𝓤 H A at-byte.ended (at-byte.clauses 𝓤 H A mem run) (κ, tt) (d .sheet, (d .at, tt)) tt r)))) (id⊢ 𝓤 _) $ await ! tt $ pick ! (λ r.
+        use1 W (later (some (λ (r : Reader). ((‵ (flft κ q) ⊛ ‵ ftrue) ⊛ ‵ (ReaderRow (κ, tt) .own r (u ∷ []))) ⊛ raw (ensured 𝓤 H A at-byte.ended (at-byte.clauses 𝓤 H A mem run) (κ, tt) (d .sheet, (d .at, tt)) tt r)))) (id⊢ 𝓤 _) $ await ! tt $ pick ! (λ r.
         split ! $ move ! (1 ∷ []) $ use1 W (raw (fact 𝓤 (r ≡ d))) (at-byte-said r) $ heard ! (r ≡ d) (λ made. split ! $ move ! (1 ∷ []) $
         -- [what the reader owns; the token; what the two own; room for _3; …; _2; …; _1; …; room for _0; …]
-        peeks ! (Row (κ, tt)) (Is (Row (κ, tt))) (shows 𝓤 H A (Row (κ, tt))) r (u ∷ []) (λ is.
+        peeks ! (ReaderRow (κ, tt)) (Is (ReaderRow (κ, tt))) (shows 𝓤 H A (ReaderRow (κ, tt))) r (u ∷ []) (λ is.
         land ! (from ! (stop !)) (init ! 3 refl (LL.lawful (T.the-type αᵉ) (T′.the-laws αᵉ) 𝓤 H A W .typed r _ is .0)) $
         use2 W (raw (TheRow 𝓤 H A mem run .pre (to-row r u))) (goes-on r u) $
         calls-at ! fm (TheRow 𝓤 H A mem run) known-row (to-row r u) (and-then ! (load ! (from ! (stop !)) (look ! 2 refl)) (no-more !)) (λ w.

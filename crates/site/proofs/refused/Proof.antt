@@ -11,7 +11,7 @@ fresh-requires c κs = search needs
 
 returns : tie.Need-returns
 unfolding zeros unmarked
-returns c = rw (c .fresh .ensures)
+returns c = rw (c .fresh .ensures, c .before .blank-rights .ensures)
 
 pub refused-spec : {M : Type 1} → statement M
 refused-spec = tie.close (tie.spec fresh-requires returns)

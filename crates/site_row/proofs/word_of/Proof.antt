@@ -1,7 +1,7 @@
 -- `site_row::word_of` meets its contract: the words are tried in their order.
 -- Assumes nothing.
 use Rattle.site_lines.specs.Line.{wordNamed}
-use Rattle.saying.proofs.Naming.{naming}
+use Rattle.cell_meaning.proofs.Naming.{naming}
 use Rattle.site_row.proofs.word_of.Statement.{statement}
 use Rattle.site_row.proofs.word_of.Tie as tie
 

@@ -11,7 +11,7 @@ take-rows-requires c κs = search needs
 
 returns : tie.Need-returns
 unfolding zeros unmarked
-returns c = c .before .take-rows .ensures
+returns c = rw (c .before .before .blank-rights .ensures) at (c .before .take-rows .ensures)
 
 pub read-rows-spec : {M : Type 1} → statement M
 read-rows-spec = tie.close (tie.spec take-rows-requires returns)

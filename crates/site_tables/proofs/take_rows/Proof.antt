@@ -32,8 +32,8 @@ row-at-requires c κs = search needs
 enum-known-cells : tie.Need-enum-known-cells Inv-loop μ-loop
 enum-known-cells c = search needs
 
-line-of-requires : tie.Need-line-of-requires Inv-loop μ-loop
-line-of-requires c κs = search needs
+site-line-of-requires : tie.Need-site-line-of-requires Inv-loop μ-loop
+site-line-of-requires c κs = search needs
 
 take-requires : tie.Need-take-requires Inv-loop μ-loop
 take-requires c κs = c .before .before .before .before .before .before .before .before .before .before .loop .inv .bounded
@@ -50,7 +50,7 @@ returns c =
     let l = t .before .before .before .before .before .before in
     let k = l .before .before in
     let r = k .before .before in
-    rw (c .stop .ensures) (sym (read-stop (r .before .loop .inv) (sym (r .row-at .ensures) ∙ k .cells .given .1) (t .take .ensures ∙ ap (takeLine _) (l .line-of .ensures)) (sym (c .before .before .is-sound .ensures) ∙ not-true _ (c .before .if1 .taken))))
+    rw (c .stop .ensures) (sym (read-stop (r .before .loop .inv) (sym (r .row-at .ensures) ∙ k .cells .given .1) (t .take .ensures ∙ ap (takeLine _) (l .site-line-of .ensures)) (sym (c .before .before .is-sound .ensures) ∙ not-true _ (c .before .if1 .taken))))
 
 add-row : tie.Need-add-row Inv-loop μ-loop
 add-row c = let w = cut-there _ _ (sym (c .before .before .before .before .before .before .before .before .before .before .before .before .before .row-at .ensures) ∙ c .before .before .before .before .before .before .before .before .before .before .before .cells .given .1) in let f = c .before .before .before .before .before .before .before .before .before .before .before .before .before .before .loop .inv .few in omega (arith, c .before .before .before .before .before .before .before .before .before .before .before .before .before .before .before .before .good)
@@ -64,7 +64,7 @@ loop-again c =
     let l = t .before .before .before .before .before .before in
     let k = l .before .before in
     let r = k .before .before in
-    read-more (r .before .loop .inv) (sym (r .row-at .ensures) ∙ k .cells .given .1) (t .take .ensures ∙ ap (takeLine _) (l .line-of .ensures)) (sym (c .before .is-sound .ensures) ∙ not-false _ (c .if1 .left))
+    read-more (r .before .loop .inv) (sym (r .row-at .ensures) ∙ k .cells .given .1) (t .take .ensures ∙ ap (takeLine _) (l .site-line-of .ensures)) (sym (c .before .is-sound .ensures) ∙ not-false _ (c .if1 .left))
 
 enum-told : tie.Need-enum-told Inv-loop μ-loop
 enum-told c = search needs
@@ -95,7 +95,7 @@ take-rows-spec =
     loop-holds
     row-at-requires
     enum-known-cells
-    line-of-requires
+    site-line-of-requires
     take-requires
     is-sound-requires
     stop-requires

@@ -26,7 +26,7 @@ fill-spec =
     (λ c. c .before .before .before .before .before .before .before .loop .inv .kinds-so .long)
     (λ c. c .before .before .before .before .before .before .before .loop .inv .doors-so .long)
     (λ c. c .before .before .before .before .before .before .before .loop .inv .persons-so .long)
-    (λ c. decode-bad (c .before .before .before .before .before .before .before .loop .inv) _ (c .before .before .before .before .before .before .row-at .ensures) (c .before .before .before .before .before .before .before .before .before .before .before .before .pre) (c .before .before .before .before .cells .given .1) _ (c .before .before .line-of .ensures) (c .enum-told .given .1))
+    (λ c. decode-bad (c .before .before .before .before .before .before .before .loop .inv) _ (c .before .before .before .before .before .before .row-at .ensures) (c .before .before .before .before .before .before .before .before .before .before .before .before .pre) (c .before .before .before .before .cells .given .1) _ (c .before .before .steps-line-of .ensures) (c .enum-told .given .1))
     (λ c κs. search decoding)
     (λ c. search decoding)
     (λ c. search decoding)

@@ -1,6 +1,6 @@
 -- `kind_from_red` meets its contract: the words are tried in their order. Assumes nothing.
 use Rattle.phases.specs.Kinds.{kindOf}
-use Rattle.saying.proofs.Naming.{naming}
+use Rattle.cell_meaning.proofs.Naming.{naming}
 use Rattle.steps_row.proofs.kind_from_red.Statement.{statement}
 use Rattle.steps_row.proofs.kind_from_red.Tie as tie
 

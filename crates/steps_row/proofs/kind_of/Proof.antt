@@ -1,6 +1,6 @@
 -- `kind_of` meets its contract: the words are tried in their order. Assumes nothing.
 use Rattle.phases.specs.Kinds.{kindOf}
-use Rattle.saying.proofs.Naming.{naming}
+use Rattle.cell_meaning.proofs.Naming.{naming}
 use Rattle.steps_row.proofs.kind_of.Statement.{statement}
 use Rattle.steps_row.proofs.kind_of.Tie as tie
 

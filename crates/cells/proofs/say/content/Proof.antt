@@ -1,7 +1,7 @@
 -- `cells::say::content` meets its contract: the two tests decide.
 -- Assumes nothing.
 use borrow.Author.Tests.{le-leb, lt-leb}
-use Rattle.saying.specs.Say.{contentAt}
+use Rattle.cell_meaning.specs.Say.{contentAt}
 use borrow.Author.Needs.{needs}
 use Rattle.cells.proofs.say.content.Statement.{statement}
 use Rattle.cells.proofs.say.content.Tie as tie

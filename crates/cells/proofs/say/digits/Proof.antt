@@ -5,7 +5,7 @@ use mathlib.Core.Path.{sym, _∙_}
 use native.Mathlib.Omega.{arith}
 use lib.ListN.{length}
 use borrow.Author.Tests.{lt-ltb, le-ltb}
-use Rattle.saying.proofs.Saying.{DigitsSoFar, digits-start, digits-turn, digits-more, digits-end, digits-limit}
+use Rattle.cell_meaning.proofs.Saying.{DigitsSoFar, digits-start, digits-turn, digits-more, digits-end, digits-limit}
 use borrow.Author.Needs.{needs}
 use Rattle.cells.proofs.say.digits.Statement.{statement}
 use Rattle.cells.proofs.say.digits.Tie as tie

@@ -1,6 +1,6 @@
 -- `cells::say::is_word` meets its contract.
 -- Assumes nothing.
-use Rattle.saying.specs.Say.{isWord}
+use Rattle.cell_meaning.specs.Say.{isWord}
 use borrow.Author.Needs.{needs}
 use Rattle.cells.proofs.say.is_word.Statement.{statement}
 use Rattle.cells.proofs.say.is_word.Tie as tie

@@ -1,7 +1,7 @@
 -- `cells::say::needless_zero` meets its contract.
 -- Assumes nothing.
 use borrow.Author.Tests.{lt-ltb, le-ltb}
-use Rattle.saying.specs.Say.{needlessZero}
+use Rattle.cell_meaning.specs.Say.{needlessZero}
 use borrow.Author.Needs.{needs}
 use Rattle.cells.proofs.say.needless_zero.Statement.{statement}
 use Rattle.cells.proofs.say.needless_zero.Tie as tie

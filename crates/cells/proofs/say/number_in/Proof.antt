@@ -1,7 +1,7 @@
 -- `cells::say::number_in` meets its contract: its tests are those of `numberIn`, in their order.
 -- Assumes nothing.
 use borrow.Author.Tests.{eq-eqb, ne-eqb, lt-ltb, le-ltb}
-use Rattle.saying.specs.Say.{numberIn}
+use Rattle.cell_meaning.specs.Say.{numberIn}
 use borrow.Author.Needs.{needs}
 use Rattle.cells.proofs.say.number_in.Statement.{statement}
 use Rattle.cells.proofs.say.number_in.Tie as tie

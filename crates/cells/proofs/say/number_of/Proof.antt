@@ -1,6 +1,6 @@
 -- `cells::say::number_of` meets its contract.
 -- Assumes nothing.
-use Rattle.saying.specs.Say.{numberAt}
+use Rattle.cell_meaning.specs.Say.{numberAt}
 use borrow.Author.Needs.{needs}
 use Rattle.cells.proofs.say.number_of.Statement.{statement}
 use Rattle.cells.proofs.say.number_of.Tie as tie

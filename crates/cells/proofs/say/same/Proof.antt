@@ -4,7 +4,7 @@ use Prim.Native.Nat.{_-_}
 use mathlib.Core.Path.{sym, ap, _∙_}
 use lib.ListN.{length}
 use borrow.Author.Tests.{ne-eqb}
-use Rattle.saying.proofs.Saying.{SameSoFar, same-false, same-start, same-turn, same-more, same-end}
+use Rattle.cell_meaning.proofs.Saying.{SameSoFar, same-false, same-start, same-turn, same-more, same-end}
 use borrow.Author.Needs.{needs}
 use Rattle.cells.proofs.say.same.Statement.{statement}
 use Rattle.cells.proofs.say.same.Tie as tie

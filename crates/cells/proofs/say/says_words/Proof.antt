@@ -2,7 +2,7 @@
 -- Assumes nothing.
 use mathlib.Core.Path.{sym, _∙_}
 use borrow.Author.Tests.{eq-eqb, ne-eqb, not-true, not-false}
-use Rattle.saying.specs.Say.{saysWords}
+use Rattle.cell_meaning.specs.Say.{saysWords}
 use borrow.Author.Needs.{needs}
 use Rattle.cells.proofs.say.says_words.Statement.{statement}
 use Rattle.cells.proofs.say.says_words.Tie as tie

@@ -32,7 +32,7 @@ use denote.Triple.Walked.{says, Stays, stay-none, stay-none-slice, walkOf, goes-
 use denote.Exit.{yes}
 use Rattle.reader.specs.Reader.{readerAt}
 use Rattle.reader.specs.declared.Reader.{Reader}
-use Rattle.reader.proofs.Held.{Type-of, laws-of, fields, OwnFields, fields-twice}
+use Rattle.reader.proofs.Held.{Type-of, laws-of, readerFields, OwnFields, fields-twice}
 use Rattle.reader.proofs.Reader.Laws as T′
 use Rattle.reader.proofs.Reader.at_byte.Key.{name as #at-byte}
 use Rattle.reader.proofs.Reader.at_byte as at-byte
@@ -48,15 +48,15 @@ module _ {M : Type 1} (𝓤 : URA M) (H : Heap 𝓤) (A : Atoms 𝓤) (W : Given
   v = sliceVal (d .sheet .ptr) (length (d .sheet .now))
 
   abbrev Entry : SProp 𝓤
-  Entry = onEntry 𝓤 H A at-byte.signature (κ, tt) (q, tt) (d .sheet, (d .at, tt)) (fields d)
+  Entry = onEntry 𝓤 H A at-byte.signature (κ, tt) (q, tt) (d .sheet, (d .at, tt)) (readerFields d)
 
   abbrev Post : Val → SProp 𝓤
-  Post = walkOf 𝓤 H A at-byte.ended stayed (at-byte.clauses 𝓤 H A mem run) .post (((κ, tt), (q, tt), tt, (d .sheet, (d .at, tt)), fields d), tt)
+  Post = walkOf 𝓤 H A at-byte.ended stayed (at-byte.clauses 𝓤 H A mem run) .post (((κ, tt), (q, tt), tt, (d .sheet, (d .at, tt)), readerFields d), tt)
 
   exits : ent 𝓤 Entry (Post (T′.lowered d))
   exits =
       qed W ((‵ (flft κ q) ⊛ ‵ ftrue) ∷ ‵ (OwnFields κ d) ∷ []) ∵
-      suffices ! _ (ends-at 𝓤 H A at-byte.ended stayed (at-byte.clauses 𝓤 H A mem run) W (((κ, tt), (q, tt), tt, (d .sheet, (d .at, tt)), fields d), tt) (T′.lowered d) d (tt, (tt, tt)) (tt, (tt, tt))) $ says ! refl $
+      suffices ! _ (ends-at 𝓤 H A at-byte.ended stayed (at-byte.clauses 𝓤 H A mem run) W (((κ, tt), (q, tt), tt, (d .sheet, (d .at, tt)), readerFields d), tt) (T′.lowered d) d (tt, (tt, tt)) (tt, (tt, tt))) $ says ! refl $
       frame ! $ use1 W (‵ (OwnFields κ d) ⊛ ‵ (OwnFields κ d)) (fields-twice 𝓤 H A W κ d) $ split ! $ frame ! $
       by ! (own-shut 𝓤 H A W (Type-of (κ, tt)) (laws-of (κ, tt)) (d .sheet, (d .at, tt)))
 

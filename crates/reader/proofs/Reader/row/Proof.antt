@@ -34,7 +34,7 @@ use denote.Triple.Clauses.{ensured, lasts}
 use Rattle.grammar.specs.Cut.{cutRow}
 use Rattle.reader.specs.declared.Reader.{Reader}
 use Rattle.grammar.specs.declared.cut.RowCut.{RowCut}
-use Rattle.reader.proofs.Held.{Row, Type-of, laws-of, fields, Own, apart}
+use Rattle.reader.proofs.Held.{ReaderRow, Type-of, laws-of, readerFields, Own, apart}
 use Rattle.reader.proofs.Reader.Laws as T′
 use Rattle.grammar.proofs.cut.RowCut as S
 use Rattle.grammar.proofs.cut.RowCut.Laws as S′
@@ -48,7 +48,7 @@ use Rattle.reader.proofs.Reader.row.Statement as stated
 use Rattle.reader.proofs.Reader.row.Code as code
 
 abbrev stayed : Stays (row.ended .signature .params) (row.ended .kept)
-stayed = (stay-none Row yes, tt)
+stayed = (stay-none ReaderRow yes, tt)
 
 -- the contract of `cut_row`
 abbrev CutRow : {M : Type 1} (𝓤 : URA M) (H : Heap 𝓤) (A : Atoms 𝓤) (mem : Memory → SProp 𝓤) (run : Routine → Fun 𝓤) → Contract 𝓤
@@ -65,7 +65,7 @@ module _ {M : Type 1} (𝓤 : URA M) (H : Heap 𝓤) (A : Atoms 𝓤) (W : Given
   Post = walkOf 𝓤 H A row.ended stayed (row.clauses 𝓤 H A mem run) .post (((κ, tt), (q, tt), tt, (d, tt), (mach ∷ [], tt)), tt)
 
   abbrev to : CutRow 𝓤 H A mem run .Ghost
-  to = (((κ, tt), (q, tt), tt, (d .sheet, (d .at, tt)), fields d), tt)
+  to = (((κ, tt), (q, tt), tt, (d .sheet, (d .at, tt)), readerFields d), tt)
 
   said : (r : RowCut) → ent 𝓤 (ensured 𝓤 H A cut.ended (cut.clauses 𝓤 H A mem run) (κ, tt) (d .sheet, (d .at, tt)) tt r) (fact 𝓤 (r ≡ found))
   said r = exE 𝓤 _ (λ ws. snd∗ 𝓤 (sem 𝓤 H A (lasts cut.ended (κ, tt) (d .sheet, (d .at, tt)) ws)) (fact 𝓤 (r ≡ found)))
@@ -105,7 +105,7 @@ row-meets : {M : Type 1} (𝓤 : URA M) (H : Heap 𝓤) (A : Atoms 𝓤) (W : Gi
     → Triple 𝓤 (𝓣 .C #cut-row) (CutRow 𝓤 H A mem run)
     → Meets 𝓤 H A row.signature (WpFn 𝓤 H (𝓣 .C) (𝓣 .Λ) code.function) (row.spec 𝓤 H A mem run)
 row-meets 𝓤 H A W mem run 𝓣 known =
-    walk-meets 𝓤 H A row.ended stayed W (goes-none 𝓤 H A W 1 Row yes (λ κs x f. refl), tt) (row.clauses 𝓤 H A mem run) (WpFn 𝓤 H (𝓣 .C) (𝓣 .Λ) code.function)
+    walk-meets 𝓤 H A row.ended stayed W (goes-none 𝓤 H A W 1 ReaderRow yes (λ κs x f. refl), tt) (row.clauses 𝓤 H A mem run) (WpFn 𝓤 H (𝓣 .C) (𝓣 .Λ) code.function)
     (WpFn-mono 𝓤 H (W .laws) 𝓣 code.function) (row-walks 𝓤 H A W mem run (𝓣 .C) (𝓣 .Λ) (fmOf 𝓤 H (W .laws) 𝓣) known)
 
 pub row-spec : {M : Type 1} → stated.statement M

@@ -1,4 +1,4 @@
--- `way_out` meets its contract: the way is measured, and written where there is room for it. Assumes nothing.
+-- `way_by_exits` meets its contract: the way is measured, and written where there is room for it. Assumes nothing.
 use Prim.Native.Nat.{_≤_, _<_}
 use mathlib.Core.Path.{_≡_, _∙_}
 use borrow.Author.Needs.{needs}
@@ -6,8 +6,8 @@ use native.Mathlib.Omega.{arith}
 use lib.ListN.{length}
 use Rattle.tables.specs.Way.{wayOf}
 use Rattle.tables.proofs.Ways as ways
-use Rattle.rules.proofs.way_out.Statement.{statement}
-use Rattle.rules.proofs.way_out.Tie as tie
+use Rattle.rules.proofs.way_by_exits.Statement.{statement}
+use Rattle.rules.proofs.way_by_exits.Tie as tie
 
 unvisited-requires : tie.Need-unvisited-requires
 unvisited-requires c κs = search needs
@@ -41,8 +41,8 @@ returns-2 c =
       c .before .before .write-way .ensures ∙ rw (c .before .before .before .before .before .before .unvisited .ensures) (ways.room-written way (a .list .now) room),
     )
 
-pub way-out-spec : {M : Type 1} → statement M
-way-out-spec =
+pub way-by-exits-spec : {M : Type 1} → statement M
+way-by-exits-spec =
     tie.close
     (tie.spec
     unvisited-requires

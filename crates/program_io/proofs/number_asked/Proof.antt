@@ -1,10 +1,10 @@
 -- `number_asked` meets its contract: a number has at most three digits. Assumes nothing.
 use mathlib.Core.Path.{sym, _∙_}
-use Rattle.outside.specs.{given, none}
-use Rattle.saying.proofs.Saying.{number-small}
+use Rattle.program_io.specs.{given, none}
+use Rattle.cell_meaning.proofs.Saying.{number-small}
 use borrow.Author.Needs.{needs}
-use Rattle.outside.proofs.number_asked.Statement.{statement}
-use Rattle.outside.proofs.number_asked.Tie as tie
+use Rattle.program_io.proofs.number_asked.Statement.{statement}
+use Rattle.program_io.proofs.number_asked.Tie as tie
 
 buffer-requires : tie.Need-buffer-requires
 buffer-requires c κs = search needs

@@ -11,8 +11,8 @@ use lib.ListN.{length, getD, drop, drop-of-length-le}
 use lib.Dec.{ltb, eqb}
 use borrow.Author.Tests.{ltb-true, ltb-false, le-ltb, eqb-true, eqb-false, eq-eqb, ne-eqb}
 use Rattle.grammar.specs.declared.cut.Cell.{Cell}
-use Rattle.saying.specs.declared.Number.the-variants.{Is, None}
-use Rattle.saying.specs.Say.{Digit, valueFrom, ProperNumber, sameBytes, digitsFrom, needlessZero, numberIn, numberAt}
+use Rattle.cell_meaning.specs.declared.Number.the-variants.{Is, None}
+use Rattle.cell_meaning.specs.Say.{Digit, valueFrom, ProperNumber, sameBytes, digitsFrom, needlessZero, numberIn, numberAt}
 use Rattle.grammar.specs.Sizes.{width}
 use Rattle.grammar.proofs.Steps.{here}
 

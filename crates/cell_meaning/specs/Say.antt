@@ -8,8 +8,8 @@ use lib.Dec.{leb, ltb, eqb}
 use Rattle.grammar.specs.Sizes.{width}
 use Rattle.grammar.specs.declared.cut.Cell.{Cell}
 use Rattle.grammar.specs.declared.cut.Cells.{Cells}
-use Rattle.saying.specs.declared.Number.{Number}
-use Rattle.saying.specs.declared.Number.the-variants.{Is, None}
+use Rattle.cell_meaning.specs.declared.Number.{Number}
+use Rattle.cell_meaning.specs.declared.Number.the-variants.{Is, None}
 
 pub record Digit (b : ℕ) : Type 0 where
   pub from : 48 ≤ b

@@ -1,6 +1,6 @@
 // What is told: what a search over a table finds, how long a way out is, and what became of a text.
 ghost use mathlib.Core.Path.{_≡_};
-ghost use Rattle.told.specs.Told.{wayToldNo, wayToldLength, printedNo};
+ghost use Rattle.findings.specs.Told.{wayToldNo, wayToldLength, printedNo};
 use numbers::Paper;
 
 // What a search over a table finds: the smallest offender, or none.

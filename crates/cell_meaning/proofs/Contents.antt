@@ -14,11 +14,11 @@ use Rattle.grammar.specs.declared.cut.Cell.{Cell}
 use Rattle.grammar.specs.declared.cut.Cells.{Cells}
 use Rattle.grammar.specs.Grammar.{quote, Field, bare, quoted, content, escape, fieldText, Row}
 use Rattle.grammar.specs.Where.{holdsQuote, cellOf, fieldOf, CellHolds, RowHolds}
-use Rattle.saying.specs.declared.Number.{Number}
-use Rattle.saying.specs.declared.Number.the-variants.{Is, None}
-use Rattle.saying.specs.Say.{Digit, contentAt, sameBytes, isWord, saysWords, numberIn, numberAt, ProperNumber}
-use Rattle.saying.specs.Meaning.{Threefold}
-use Rattle.saying.proofs.Saying.{same-self, same-true, same-false, proper-read, read-proper}
+use Rattle.cell_meaning.specs.declared.Number.{Number}
+use Rattle.cell_meaning.specs.declared.Number.the-variants.{Is, None}
+use Rattle.cell_meaning.specs.Say.{Digit, contentAt, sameBytes, isWord, saysWords, numberIn, numberAt, ProperNumber}
+use Rattle.cell_meaning.specs.Meaning.{Threefold}
+use Rattle.cell_meaning.proofs.Saying.{same-self, same-true, same-false, proper-read, read-proper}
 
 -- the bytes of a field without its quotes
 abbrev body : Field → List ℕ
@@ -65,10 +65,10 @@ pub data CellTells (s : List ℕ) (cell : Cell) (f : Field) : Type 0 where
   whole : cell .doubled ≡ false → contentAt s cell ≡ content f → CellTells s cell f
   with-quote : cell .doubled ≡ true → holdsQuote (content f) ≡ true → CellTells s cell f
 
-pub tells : (s : List ℕ) {cell : Cell} (f : Field) → CellHolds s cell f → CellTells s cell f
+pub cell-tells : (s : List ℕ) {cell : Cell} (f : Field) → CellHolds s cell f → CellTells s cell f
 unfolding cellOf
-tells s {cell} (bare c) h = whole (ap (λ (k : Cell). k .doubled) (h .is)) (body-there s (bare c) h)
-tells s {cell} (quoted c) h =
+cell-tells s {cell} (bare c) h = whole (ap (λ (k : Cell). k .doubled) (h .is)) (body-there s (bare c) h)
+cell-tells s {cell} (quoted c) h =
     by-quote (CellTells s cell (quoted c)) c (λ q. with-quote (ap (λ (k : Cell). k .doubled) (h .is) ∙ q) q)
     (λ q. whole (ap (λ (k : Cell). k .doubled) (h .is) ∙ q) (body-there s (quoted c) h ∙ escape-none c q))
 
@@ -79,7 +79,7 @@ clash e = let z : _≡_ {A = ℕ} 0 1 = cc in absurd (omega arith)
 pub word-exact : (s : List ℕ) {cell : Cell} (f : Field) (word : List ℕ) → CellHolds s cell f → holdsQuote word ≡ false
     → (isWord s cell word ≡ true) ↔ (content f ≡ word)
 unfolding isWord
-word-exact s {cell} f word h n = go (tells s f h)
+word-exact s {cell} f word h n = go (cell-tells s f h)
   where
     go : CellTells s cell f → (isWord s cell word ≡ true) ↔ (content f ≡ word)
     go (whole d e) = ((λ t. same-true (content f) word (rw (e, d) at t)), (λ t. rw (e, d, t) (same-self word)))
@@ -129,7 +129,7 @@ digits-no-quote (b ∷ c) d =
 -- a number is read exactly when the field's content is a proper one, with its value
 pub number-exact : (s : List ℕ) {cell : Cell} (f : Field) (n : ℕ) → CellHolds s cell f → (numberAt s cell ≡ Is n) ↔ ProperNumber (content f) n
 unfolding numberAt
-number-exact s {cell} f n h = go (tells s f h)
+number-exact s {cell} f n h = go (cell-tells s f h)
   where
     go : CellTells s cell f → (numberAt s cell ≡ Is n) ↔ ProperNumber (content f) n
     go (whole d e) = ((λ t. read-proper (content f) (rw (e, d) at t)), (λ p. rw (e, d) (proper-read (content f) p)))
@@ -141,7 +141,7 @@ number-exact s {cell} f n h = go (tells s f h)
 -- a cell says of a word, and as a number, what its field's content does
 pub word-same : (s : List ℕ) {cell : Cell} (f : Field) (w : List ℕ) → CellHolds s cell f → holdsQuote w ≡ false → isWord s cell w ≡ sameBytes (content f) w
 unfolding isWord
-word-same s {cell} f w h n = go (tells s f h)
+word-same s {cell} f w h n = go (cell-tells s f h)
   where
     go : CellTells s cell f → isWord s cell w ≡ sameBytes (content f) w
     go (whole d e) = rw (e, d)
@@ -156,7 +156,7 @@ number-none c q = go (numberIn c) refl
 
 pub number-same : (s : List ℕ) {cell : Cell} (f : Field) → CellHolds s cell f → numberAt s cell ≡ numberIn (content f)
 unfolding numberAt
-number-same s {cell} f h = go (tells s f h)
+number-same s {cell} f h = go (cell-tells s f h)
   where
     go : CellTells s cell f → numberAt s cell ≡ numberIn (content f)
     go (whole d e) = rw (e, d)

@@ -1,15 +1,15 @@
--- `line_of` meets its contract: three fields, the door, the step and its person. Assumes nothing.
+-- `steps_line_of` meets its contract: three fields, the door, the step and its person. Assumes nothing.
 use mathlib.Core.Path.{sym, _∙_}
 use mathlib.Core.List.{[], _∷_}
 use native.Mathlib.Omega.{arith}
 use types.Run.{miss}
 use borrow.Author.Tests.{eq-eqb, ne-eqb}
-use Rattle.saying.proofs.Saying.{number-small}
+use Rattle.cell_meaning.proofs.Saying.{number-small}
 use Rattle.steps_sheet.specs.Steps.{stepsLineAt}
 use Rattle.steps_sheet.proofs.Rows.{others-are-steps, person-small}
 use borrow.Author.Needs.{needs}
-use Rattle.steps_row.proofs.line_of.Statement.{statement}
-use Rattle.steps_row.proofs.line_of.Tie as tie
+use Rattle.steps_row.proofs.steps_line_of.Statement.{statement}
+use Rattle.steps_row.proofs.steps_line_of.Tie as tie
 
 returns : tie.Need-returns
 unfolding stepsLineAt
@@ -73,8 +73,8 @@ returns-5 c =
     let step = others-are-steps (p .before .kind-of .result) (λ is. miss (0 ∷ 1 ∷ 2 ∷ 3 ∷ 4 ∷ 5 ∷ 6 ∷ 7 ∷ 8 ∷ 9 ∷ []) 10 tt (rw is at (c .match3 .keys2))) in
     rw (eq-eqb _ _ (n .before .before .before .before .if1 .left), sym (n .number-of .ensures) ∙ p .before .before .before .door .given .1, ← p .before .kind-of .ensures, sym (p .person-of .ensures) ∙ c .before .before .person .given .1, step)
 
-pub line-of-spec : {M : Type 1} → statement M
-line-of-spec =
+pub steps-line-of-spec : {M : Type 1} → statement M
+steps-line-of-spec =
     tie.close
     (tie.spec
     returns

@@ -4,10 +4,10 @@ ghost use mathlib.Core.Path.{_≡_};
 ghost use mathlib.Core.Bool.{cond};
 ghost use lib.ListN.{length};
 ghost use lib.Dec.{leb};
-ghost use Rattle.outside.specs.{Asked};
+ghost use Rattle.program_io.specs.{Asked};
+use cell_meaning::Number;
 use cells::say::number_of;
 use grammar::cut::Cell;
-use saying::Number;
 
 // So many bytes are written where a text has more than its list.
 const NOTHING: usize = 0;

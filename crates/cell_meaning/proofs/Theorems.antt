@@ -1,4 +1,4 @@
--- The theorems of the crate `saying`: what the tests of specs/Say.antt answer of a cell is what its field's content says.
+-- The theorems of the crate `cell_meaning`: what the tests of specs/Say.antt answer of a cell is what its field's content says.
 -- Assumes nothing.
 use Prim.Native.Nat.{ℕ, _<_}
 use mathlib.Core.Path.{_≡_}
@@ -10,11 +10,11 @@ use Rattle.grammar.specs.declared.cut.Cell.{Cell}
 use Rattle.grammar.specs.declared.cut.Cells.{Cells}
 use Rattle.grammar.specs.Grammar.{Field, content, Row}
 use Rattle.grammar.specs.Where.{holdsQuote, CellHolds, RowHolds}
-use Rattle.saying.specs.declared.Number.the-variants.{Is}
-use Rattle.saying.specs.Say.{ProperNumber, isWord, saysWords, numberAt, placeAmong}
-use Rattle.saying.specs.Meaning.{Threefold, WordAt}
-use Rattle.saying.proofs.Contents as contents
-use Rattle.saying.proofs.Naming as naming
+use Rattle.cell_meaning.specs.declared.Number.the-variants.{Is}
+use Rattle.cell_meaning.specs.Say.{ProperNumber, isWord, saysWords, numberAt, placeAmong}
+use Rattle.cell_meaning.specs.Meaning.{Threefold, WordAt}
+use Rattle.cell_meaning.proofs.Contents as contents
+use Rattle.cell_meaning.proofs.Naming as naming
 
 module _ (s : List ℕ) where
   -- A field is a word without quotes exactly when its content is.

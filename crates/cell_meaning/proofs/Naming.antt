@@ -15,11 +15,11 @@ use borrow.Author.Needs.{needs}
 use borrow.Author.Tests.{ltb-true, ltb-false}
 use Rattle.grammar.specs.declared.cut.Cell.{Cell}
 use Rattle.grammar.specs.Grammar.{Field, content}
-use Rattle.saying.specs.Say.{contentAt, sameBytes, isWord, placeIn, placeAmong, namedFrom}
+use Rattle.cell_meaning.specs.Say.{contentAt, sameBytes, isWord, placeIn, placeAmong, namedFrom}
 use Rattle.grammar.specs.Where.{holdsQuote, CellHolds}
-use Rattle.saying.specs.Meaning.{WordAt}
-use Rattle.saying.proofs.Saying.{same-self, same-true, same-false}
-use Rattle.saying.proofs.Contents.{CellTells, whole, with-quote, tells}
+use Rattle.cell_meaning.specs.Meaning.{WordAt}
+use Rattle.cell_meaning.proofs.Saying.{same-self, same-true, same-false}
+use Rattle.cell_meaning.proofs.Contents.{CellTells, whole, with-quote, cell-tells}
 
 clash : {A : Type 0} → true ≡ false → A
 clash e = let z : _≡_ {A = ℕ} 0 1 = cc in absurd (omega arith)
@@ -113,7 +113,7 @@ quote-no-word (word ∷ words) c (more n plain) q =
 pub place-same : (s : List ℕ) {cell : Cell} (f : Field) (words : List (List ℕ)) → CellHolds s cell f → NoQuotes words
     → placeAmong words s cell ≡ placeIn words (content f)
 unfolding placeAmong
-place-same s {cell} f words h plain = go (tells s f h)
+place-same s {cell} f words h plain = go (cell-tells s f h)
   where
     go : CellTells s cell f → placeAmong words s cell ≡ placeIn words (content f)
     go (whole d e) = rw (e, d)

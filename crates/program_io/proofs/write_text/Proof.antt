@@ -1,8 +1,8 @@
 -- `write_text` meets its contract: the list is as long as the text, or nothing of it is written. Assumes nothing.
 use borrow.Author.Needs.{needs}
 use borrow.Author.Tests.{lt-leb, le-leb}
-use Rattle.outside.proofs.write_text.Statement.{statement}
-use Rattle.outside.proofs.write_text.Tie as tie
+use Rattle.program_io.proofs.write_text.Statement.{statement}
+use Rattle.program_io.proofs.write_text.Tie as tie
 
 returns : tie.Need-returns
 returns c = rw (lt-leb _ _ (c .if1 .taken))

@@ -1,11 +1,11 @@
--- `site_row::line_of` meets its contract.
+-- `site_row::site_line_of` meets its contract.
 -- Assumes nothing.
 use mathlib.Core.Path.{sym, _∙_}
 use borrow.Author.Tests.{eq-eqb, ne-eqb}
 use Rattle.site_lines.specs.Line.{siteLineAt}
 use borrow.Author.Needs.{needs}
-use Rattle.site_row.proofs.line_of.Statement.{statement}
-use Rattle.site_row.proofs.line_of.Tie as tie
+use Rattle.site_row.proofs.site_line_of.Statement.{statement}
+use Rattle.site_row.proofs.site_line_of.Tie as tie
 
 returns : tie.Need-returns
 unfolding siteLineAt
@@ -75,8 +75,8 @@ returns-8 : tie.Need-returns-8
 unfolding siteLineAt
 returns-8 c = simp (eq-eqb _ _ (c .before .before .before .before .before .before .before .before .before .before .before .before .before .before .if1 .left), sym (c .before .before .before .before .before .before .before .before .before .before .number-of .ensures) ∙ c .before .before .before .before .before .before .before .before .a .given .1, sym (c .before .before .before .before .before .before .number-of2 .ensures) ∙ c .before .before .before .before .b .given .1, sym (c .before .before .word-of .ensures) ∙ c .enum-told7 .given .1)
 
-pub line-of-spec : {M : Type 1} → statement M
-line-of-spec =
+pub site-line-of-spec : {M : Type 1} → statement M
+site-line-of-spec =
     tie.close
     (tie.spec
     returns
