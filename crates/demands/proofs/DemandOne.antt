@@ -26,7 +26,7 @@ use Rattle.site_lines.specs.declared.Draft.{Draft}
 use Rattle.site_lines.specs.Line.{siteHeaderAt}
 use Rattle.site_lines.specs.Draft.{planIn}
 use Rattle.site_lines.specs.Taking.{soundFault}
-use Rattle.site_sheet.specs.Site.{firstPlace, secondPlace, blankRecord, acceptedSite, unlessFound, unlessPair, judged, settled, afterHeader, siteAt, siteOf}
+use Rattle.site_sheet.specs.Site.{firstPlace, secondPlace, blankRecord, acceptedSite, unlessFound, unlessPair, judgedDraft, settled, afterHeader, siteAt, siteOf}
 use Rattle.grammar.specs.Sizes.{limit}
 use Rattle.site_sheet.specs.Site as site
 use Rattle.site_lines.proofs.Theorems.{line-exactly, rows-taken}
@@ -84,8 +84,8 @@ pair-blank : (x : RightFound) (refusal : ℕ → ℕ → Verdict) (on : SiteRead
 pair-blank (pair.At p l) refusal on b some = refl
 pair-blank pair.Nothing refusal on b some = b some
 
-judged-blank : (d : Draft) → Blank (judged d)
-unfolding judged
+judged-blank : (d : Draft) → Blank (judgedDraft d)
+unfolding judgedDraft
 judged-blank d =
     found-blank (firstNoExit (d .locations) (d .given)) NoExit _
     (found-blank (firstStray (d .locations) (d .exit)) Stray _

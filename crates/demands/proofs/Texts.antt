@@ -126,7 +126,7 @@ nobody-may : (p l : ℕ) → mayBe (replicate (mostPeople * mostLocations) false
 unfolding mayBe orElse andAlso unmarked
 nobody-may p l = rw (unmarked-at (mostPeople * mostLocations) (p * mostLocations + l)) (go (eqb l 0) (ltb l mostLocations))
   where
-    go : (a b : Bool) → cond a true (cond b false false) ≡ a
+    go : (a b : Bool) → orElse a (andAlso b false) ≡ a
     go true b = refl
     go false true = refl
     go false false = refl

@@ -39,7 +39,7 @@ use Rattle.verdict.specs.declared.Verdict.the-variants.{Accepted, NoExit, Stray
 use Rattle.site_lines.specs.Draft.{unmarked, siteRowFits, takeSite, doorRowFits, takeDoor, exitRowFits, takeExit, rightRowFits, takeRight, takeLine}
 use Rattle.site_lines.specs.Line.{wordNamed, siteLineAt, siteHeaderAt}
 use Rattle.site_lines.specs.Taking.{linesIn, readLines}
-use Rattle.site_sheet.specs.Site.{judged, settled, afterHeader, siteAt, siteOf}
+use Rattle.site_sheet.specs.Site.{judgedDraft, settled, afterHeader, siteAt, siteOf}
 use Rattle.run_events.specs.Lines.{Line, linesOf, heardOf}
 use Rattle.card_by_card.specs.Serving.{stepAt, ticked}
 use Rattle.card_by_card.specs.Served.{Fresh}
@@ -58,7 +58,7 @@ sheets : (siteOf siteSheet .verdict ≡ Accepted)
     × (siteOf withoutRightOf0 .verdict ≡ NoRight 0 2)
     × (siteOf withoutRightOf1 .verdict ≡ ShutOut 1)
     × (freshSite ≡ site-of-01)
-unfolding bareMove shutMove moveOf endOf fieldFrom pushed rowFrom cutRow readRows rowsFrom valueFrom digitsFrom needlessZero numberIn contentAt sameBytes isWord saysWords numberAt orAt leastBelow withLocation locationOf leastPair someBelow orElse andAlso mayBe lacksExit firstNoExit strays firstStray joins lacksDoor firstNoDoor lacksRight firstNoRight letsIn shutOut firstShutOut unlessOutside wayOut unvisited wayOf unmarked siteRowFits takeSite doorRowFits takeDoor exitRowFits takeExit rightRowFits takeRight takeLine placeIn placeAmong namedFrom wordNamed siteLineAt siteHeaderAt linesIn readLines judged settled afterHeader siteAt zeros
+unfolding bareMove shutMove moveOf endOf fieldFrom pushed rowFrom cutRow readRows rowsFrom valueFrom digitsFrom needlessZero numberIn contentAt sameBytes isWord saysWords numberAt orAt leastBelow withLocation locationOf leastPair someBelow orElse andAlso mayBe lacksExit firstNoExit strays firstStray joins lacksDoor firstNoDoor lacksRight firstNoRight letsIn shutOut firstShutOut unlessOutside wayOut unvisited wayOf unmarked siteRowFits takeSite doorRowFits takeDoor exitRowFits takeExit rightRowFits takeRight takeLine placeIn placeAmong namedFrom wordNamed siteLineAt siteHeaderAt linesIn readLines judgedDraft settled afterHeader siteAt zeros
 sheets = (refl, refl, refl, refl, refl, refl, refl)
 
 -- a verdict by its number and its places

@@ -36,7 +36,7 @@ use Rattle.verdict.specs.declared.Verdict.the-variants.{Accepted, NoSite}
 use Rattle.site_lines.specs.Draft.{unmarked, siteRowFits, takeSite, doorRowFits, takeDoor, exitRowFits, takeExit, rightRowFits, takeRight, takeLine}
 use Rattle.site_lines.specs.Line as site
 use Rattle.site_lines.specs.Taking.{linesIn, readLines}
-use Rattle.site_sheet.specs.Site.{judged, settled, afterHeader, siteAt, siteOf, refusedSite}
+use Rattle.site_sheet.specs.Site.{judgedDraft, settled, afterHeader, siteAt, siteOf, refusedSite}
 use Rattle.grammar.specs.Sizes.{limit}
 use Rattle.site_sheet.proofs.Theorems.{accepted-holds}
 use Rattle.steps_sheet.specs.declared.Heading.{Heading}
@@ -84,7 +84,7 @@ site-of-01 =
     (set (set (set (replicate (mostPeople * mostLocations) false) 1 true) 2 true) (mostLocations + 1) true)
 
 sites : (siteOf siteSheet ≡ record { verdict = Accepted; «record» = site-of-01 }) × (siteOf siteHeader ≡ refusedSite NoSite)
-unfolding bareMove shutMove moveOf endOf fieldFrom pushed rowFrom cutRow readRows rowsFrom valueFrom digitsFrom needlessZero numberIn contentAt sameBytes isWord saysWords numberAt orAt leastBelow withLocation locationOf leastPair someBelow orElse andAlso mayBe lacksExit firstNoExit strays firstStray joins lacksDoor firstNoDoor lacksRight firstNoRight letsIn shutOut firstShutOut unlessOutside wayOut unvisited wayOf unmarked siteRowFits takeSite doorRowFits takeDoor exitRowFits takeExit rightRowFits takeRight takeLine placeIn placeAmong namedFrom site.wordNamed site.siteLineAt site.siteHeaderAt linesIn readLines judged settled afterHeader siteAt zeros
+unfolding bareMove shutMove moveOf endOf fieldFrom pushed rowFrom cutRow readRows rowsFrom valueFrom digitsFrom needlessZero numberIn contentAt sameBytes isWord saysWords numberAt orAt leastBelow withLocation locationOf leastPair someBelow orElse andAlso mayBe lacksExit firstNoExit strays firstStray joins lacksDoor firstNoDoor lacksRight firstNoRight letsIn shutOut firstShutOut unlessOutside wayOut unvisited wayOf unmarked siteRowFits takeSite doorRowFits takeDoor exitRowFits takeExit rightRowFits takeRight takeLine placeIn placeAmong namedFrom site.wordNamed site.siteLineAt site.siteHeaderAt linesIn readLines judgedDraft settled afterHeader siteAt zeros
 sites = (refl, refl)
 
 abbrev step : Kind → ℕ → StepRow
