@@ -48,14 +48,18 @@ fn write_line<'a>(word: &'a [u8], printed: Printed, last: &'a [u8]) {
     io::write_all(STDOUT_FILENO, last);
 }
 
+fn blank_lent() -> [u8; MOST_LENT] {
+    [0; MOST_LENT]
+}
+
 fn is_blank(list: &[u8; MOST_LENT]) -> bool {
-    let blank = [0u8; MOST_LENT];
+    let blank = blank_lent();
     check::same(list, &blank)
 }
 
 // A list of which so many bytes are lent, one too few.
 fn write_short<'a>(text: Text, site: &'a [u8], steps: &'a [u8], room: usize) {
-    let mut list = [0u8; MOST_LENT];
+    let mut list = blank_lent();
     if MOST_LENT < room {
         return;
     }
@@ -92,7 +96,7 @@ fn write_lent<'a>(text: Text, site: &'a [u8], steps: &'a [u8], expected: &'a [u8
     let length = expected.len();
     if 0 < length && steps.len() <= MOST_SHORT {
         write_short(text, site, steps, length - 1);
-        let mut list = [0u8; MOST_LENT];
+        let mut list = blank_lent();
         write_exact(text, site, steps, expected, &mut list);
     }
 }
