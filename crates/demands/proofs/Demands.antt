@@ -1,13 +1,14 @@
 -- The theorems of the panel, each under the letter's words. What each says is a record of named facts in `specs/`, a fact for each
 -- function or sentence with the papers' line beside it:
---     demand-1          `specs/DemandOne.antt`, with `sheet_answers/specs/Answers.antt`, `table_answers/specs/Answers.antt` and
---                       `record_answers/specs/Answers.antt`
+--     demand-1          `specs/DemandOne.antt`, with `sheet_answers/specs/Answers.antt`, `table_answers/specs/Answers.antt`, and
+--                       `record_answers/specs/Answers.antt`, `record_answers/specs/Deeds.antt` and `record_answers/specs/Enums.antt`
 --     demand-2          `specs/DemandTwo.antt`
 --     demand-3          `card_by_card/specs/Served.antt`, by `card_by_card/specs/Serving.antt`
 --     demand-3-printed  `specs/Bytes.antt`
 --     put-by-passages, refused-moves-nobody         `card_by_card/specs/Warden.antt`
 --     walks-out         `card_by_card/specs/Leaving.antt`
---     answers-unique    `specs/Unique.antt`, with specs/Unique.antt of the same three crates
+--     answers-unique    `specs/Unique.antt`, with specs/Unique.antt of the same three crates, and `record_answers/specs/Deeds.antt` and
+--                       `record_answers/specs/Enums.antt`
 --     twelve-cases      `paper_cases/specs/Cases.antt`
 -- They speak of the definitions that the promises in `src/` of each crate cite, so that they hold of the code. Assume nothing.
 use Prim.Native.Nat.{ℕ, _<_}

@@ -1,7 +1,8 @@
 -- "That two answers both allowed are equal is itself a theorem" (01, "What the promises leave no room for"). Each field is a public
 -- function: whatever its promise allows, the answer and what each lent list holds at exit, is one thing. The promise stands as in the
 -- function's `ensures`.
--- The parts of what stands below a site sheet are in `sheet_answers`, `table_answers` and `record_answers`.
+-- The parts of the site sheet, of the steps sheet and of what is printed are here. The others are in specs/Unique.antt of the crates
+-- `sheet_answers`, `table_answers` and `record_answers`, and in `record_answers/specs/Deeds.antt` and `record_answers/specs/Enums.antt`.
 use Prim.Native.Nat.{ℕ, _+_, _*_}
 use mathlib.Core.Path.{_≡_}
 use mathlib.Core.Bool.{Bool, false, cond}

@@ -1,5 +1,5 @@
--- Demand 1 of the record: each field is a public function of the crates `granting`, `soundness` and `record`, and says what follows of the
--- definition that its promise cites.
+-- Demand 1 of the record: each field is a public function of the crates `granting`, `soundness`, `record`, `lending`, `step_list` or
+-- `questions`, and says what follows of the definition that its promise cites.
 use Prim.Native.Nat.{ℕ, _≤_, _<_}
 use mathlib.Core.Path.{_≡_}
 use mathlib.Core.Bool.{Bool, true}
@@ -59,7 +59,7 @@ pub record SoundAnswers : Type 0 where
   pub lists-sound : (site : Plan) (right : List Bool) (place phase holder count : List ℕ) → Shaped (recordOf site right place phase holder count)
       → Tells (listsSound site right place phase holder count) (Sound (recordOf site right place phase holder count))
 
--- ---- crate `record`: a step
+-- ---- crates `record` and `lending`: a step
 
 -- "Each names a door; `card` also a person.": they exist
 pub record Exists (r : Record) (k : Kind) (d p : ℕ) : Type 0 where
@@ -83,7 +83,7 @@ pub record StepTells (r : Record) (k : Kind) (d p : ℕ) (s : Step) : Type 0 whe
   pub no-reason : (s .answer ≡ Done → ⊥) → s .reason ≡ 0
   pub a-reason : (s .reason ≡ 0 → ⊥) → (k ≡ Decide) × (s .phase ≡ denied)
 
--- ---- crate `record`: a run and the questions
+-- ---- crate `step_list`: a run; crate `questions`: the three questions
 
 -- each of the other lists is as long as the list of steps
 pub record Room (steps doors persons answers phases reasons : List ℕ) : Type 0 where

@@ -1,5 +1,6 @@
--- Answers of the functions of the crates `granting`, `soundness` and `record` are unique: whatever a promise allows, the answer and what
--- each lent list and the lent record hold at exit, is one thing. The promise stands as in the function's `ensures`.
+-- Answers of the functions of the crates `granting`, `soundness`, `record`, `lending`, `step_list` and `questions` are unique: whatever a
+-- promise allows, the answer and what each lent list and the lent record hold at exit, is one thing. The promise stands as in the
+-- function's `ensures`.
 use Prim.Native.Nat.{ℕ}
 use mathlib.Core.Path.{_≡_}
 use mathlib.Core.Bool.{Bool}
@@ -46,8 +47,8 @@ pub record RecordUnique : Type 0 where
   pub is-sound : (r : Record) → Unique (λ (x : Bool). x ≡ soundB r)
   pub step : (r : Record) (k : Kind) (d p : ℕ) → Unique (λ (x : Step). x ≡ stepOf r k d p)
   pub step-numbered : (r : Record) (n d p : ℕ) → Unique (λ (x : Step). x ≡ stepOf r (kindOf n) d p)
-  -- what is told, and the lent record at exit
   pub lend : (r : Record) (k : Kind) (d p : ℕ) → Unique (λ (x : Step). x ≡ stepOf r k d p)
+  -- what is told, and the lent record at exit
   pub step-lent : (r : Record) (k : Kind) (d p : ℕ)
       → Unique (λ (x : Told × Record). (x .0 ≡ toldBy (stepOf r k d p)) × (x .1 ≡ stepOf r k d p .next))
   pub card : (r : Record) (d p : ℕ) → Unique (λ (x : Step). x ≡ stepOf r Card d p)

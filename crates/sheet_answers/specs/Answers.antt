@@ -1,5 +1,6 @@
--- Demand 1 of sheets and texts: each field is a public function of the crates `sheet` and `text`, and says what follows of the definition
--- that its promise cites. A function that answers no number tells a place or a fact: the place is there, the fact is told exactly.
+-- Demand 1 of sheets and texts: each field is a public function of the crates `sheet`, `cells`, `reader`, `text`, `number_rows` or
+-- `findings`, and says what follows of the definition that its promise cites. A function that answers no number tells a place or a fact:
+-- the place is there, the fact is told exactly.
 use Prim.Native.Nat.{ℕ, _+_, _≤_, _<_}
 use mathlib.Core.Path.{_≡_}
 use mathlib.Core.Bool.{false}
@@ -30,7 +31,7 @@ use Rattle.findings.specs.Told.{printedNo}
 use Rattle.tables.specs.Below.{Tells}
 use Rattle.numbers.specs.Telling.{done, _unless_then_, NumberBy, OneOf}
 
--- ---- crate `sheet`
+-- ---- crates `sheet`, `cells` and `reader`
 
 -- a place told lies in the sheet, from `at` on
 pub record Within (s : List ℕ) (at place : ℕ) : Type 0 where
@@ -82,7 +83,7 @@ pub record SheetAnswers : Type 0 where
   -- "A number is 1 to 3 digits with no needless leading zero.": a cell is told as one exactly when it is one
   pub number-of : (s : List ℕ) (cell : Cell) (n : ℕ) → (numberAt s cell ≡ Is n) ↔ ((cell .doubled ≡ false) × ProperNumber (contentAt s cell) n)
 
--- ---- crate `text`
+-- ---- crates `text` and `number_rows`, and `Printed::number` of `findings`
 
 -- a text is written at a place of a list, which stays as long as it was: within the list it stands there, the rest is unaltered and
 -- the place behind it is told; past the list's end nothing is written

@@ -1,5 +1,6 @@
--- Answers of the functions of the crates `sheet` and `text` are unique: whatever a promise allows, the answer and what each lent list
--- holds at exit, is one thing. The promise stands as in the function's `ensures`.
+-- Answers of the functions of the crates `sheet`, `cells`, `reader`, `text` and `number_rows`, and of `Printed::number` of `findings`, are
+-- unique: whatever a promise allows, the answer and what each lent list holds at exit, is one thing. The promise stands as in the
+-- function's `ensures`.
 use Prim.Native.Nat.{ℕ}
 use mathlib.Core.Path.{_≡_}
 use mathlib.Core.Bool.{Bool}

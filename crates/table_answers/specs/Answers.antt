@@ -29,7 +29,7 @@ use Rattle.phases.specs.Kinds.{kindOf, numberOfKind, allows}
 use Rattle.phases.specs.Table.{asked}
 use Rattle.numbers.specs.Telling.{OneOf}
 
--- ---- crate `tables`
+-- ---- crate `lists`
 
 -- a number put at a place of a list: it stands there, all else is as it was, and past the list's end nothing is written
 pub record PutTells (list : List ℕ) (at n : ℕ) : Type 0 where
