@@ -18,7 +18,7 @@ use Rattle.cell_meaning.specs.declared.Number.{Number}
 use Rattle.cell_meaning.specs.declared.Number.the-variants.{Is, None}
 use Rattle.cell_meaning.specs.Say.{Digit, contentAt, sameBytes, isWord, saysWords, numberIn, numberAt, ProperNumber}
 use Rattle.cell_meaning.specs.Meaning.{Threefold}
-use Rattle.cell_meaning.proofs.Saying.{same-self, same-true, same-false, proper-read, read-proper}
+use Rattle.cell_meaning.proofs.Saying.{same-self, same-true, same-false, untrue, proper-read, read-proper}
 
 -- the bytes of a field without its quotes
 abbrev body : Field → List ℕ
@@ -72,9 +72,6 @@ cell-tells s {cell} (quoted c) h =
     by-quote (CellTells s cell (quoted c)) c (λ q. with-quote (ap (λ (k : Cell). k .doubled) (h .is) ∙ q) q)
     (λ q. whole (ap (λ (k : Cell). k .doubled) (h .is) ∙ q) (body-there s (quoted c) h ∙ escape-none c q))
 
-clash : {A : Type 0} → true ≡ false → A
-clash e = let z : _≡_ {A = ℕ} 0 1 = cc in absurd (omega arith)
-
 -- a word without quotes: the test holds exactly when the field's content is the word
 pub word-exact : (s : List ℕ) {cell : Cell} (f : Field) (word : List ℕ) → CellHolds s cell f → holdsQuote word ≡ false
     → (isWord s cell word ≡ true) ↔ (content f ≡ word)
@@ -83,12 +80,12 @@ word-exact s {cell} f word h n = go (cell-tells s f h)
   where
     go : CellTells s cell f → (isWord s cell word ≡ true) ↔ (content f ≡ word)
     go (whole d e) = ((λ t. same-true (content f) word (rw (e, d) at t)), (λ t. rw (e, d, t) (same-self word)))
-    go (with-quote d q) = ((λ t. clash (sym (let z : false ≡ true = rw d at t in z))), (λ t. clash (sym q ∙ ap holdsQuote t ∙ n)))
+    go (with-quote d q) = ((λ t. untrue (sym (let z : false ≡ true = rw d at t in z))), (λ t. untrue (sym q ∙ ap holdsQuote t ∙ n)))
 
 -- two tests that both hold
 pub both-true : (a b : Bool) → cond a b false ≡ true → (a ≡ true) × (b ≡ true)
 both-true true b e = (refl, e)
-both-true false b e = clash (sym e)
+both-true false b e = untrue (sym e)
 
 -- three words without quotes: the test holds exactly when the row has three fields and their contents are the words
 pub words-exact : (s : List ℕ) {cells : Cells} (r : Row) (x y z : List ℕ) → RowHolds s cells r
@@ -135,7 +132,7 @@ number-exact s {cell} f n h = go (cell-tells s f h)
     go (whole d e) = ((λ t. read-proper (content f) (rw (e, d) at t)), (λ p. rw (e, d) (proper-read (content f) p)))
     go (with-quote d q) = (
       (λ t. let z : None ≡ Is n = rw d at t in let y : _≡_ {A = ℕ} 0 1 = cc in absurd (omega arith)),
-      (λ p. clash (sym q ∙ digits-no-quote (content f) (p .digits))),
+      (λ p. untrue (sym q ∙ digits-no-quote (content f) (p .digits))),
     )
 
 -- a cell says of a word, and as a number, what its field's content does
@@ -145,13 +142,13 @@ word-same s {cell} f w h n = go (cell-tells s f h)
   where
     go : CellTells s cell f → isWord s cell w ≡ sameBytes (content f) w
     go (whole d e) = rw (e, d)
-    go (with-quote d q) = rw d (sym (same-false (content f) w (λ e. clash (sym q ∙ ap holdsQuote e ∙ n))))
+    go (with-quote d q) = rw d (sym (same-false (content f) w (λ e. untrue (sym q ∙ ap holdsQuote e ∙ n))))
 
 number-none : (c : List ℕ) → holdsQuote c ≡ true → numberIn c ≡ None
 number-none c q = go (numberIn c) refl
   where
     go : (x : Number) → numberIn c ≡ x → x ≡ None
-    go (Is n) e = clash (sym q ∙ digits-no-quote c (read-proper c e .digits))
+    go (Is n) e = untrue (sym q ∙ digits-no-quote c (read-proper c e .digits))
     go None e = refl
 
 pub number-same : (s : List ℕ) {cell : Cell} (f : Field) → CellHolds s cell f → numberAt s cell ≡ numberIn (content f)

@@ -18,11 +18,8 @@ use Rattle.grammar.specs.Grammar.{Field, content}
 use Rattle.cell_meaning.specs.Say.{contentAt, sameBytes, isWord, placeIn, placeAmong, namedFrom}
 use Rattle.grammar.specs.Where.{holdsQuote, CellHolds}
 use Rattle.cell_meaning.specs.Meaning.{WordAt}
-use Rattle.cell_meaning.proofs.Saying.{same-self, same-true, same-false}
+use Rattle.cell_meaning.proofs.Saying.{same-self, same-true, same-false, untrue}
 use Rattle.cell_meaning.proofs.Contents.{CellTells, whole, with-quote, cell-tells}
-
-clash : {A : Type 0} → true ≡ false → A
-clash e = let z : _≡_ {A = ℕ} 0 1 = cc in absurd (omega arith)
 
 -- no word has a quote in it
 pub data NoQuotes : List (List ℕ) → Type 0 where
@@ -30,6 +27,16 @@ pub data NoQuotes : List (List ℕ) → Type 0 where
   more : {word : List ℕ} {words : List (List ℕ)} → holdsQuote word ≡ false → NoQuotes words → NoQuotes (word ∷ words)
 
 -- ---- the place of a content
+
+-- to be a word is to be found among that word alone
+pub word-alone : (s : List ℕ) (cell : Cell) (word : List ℕ) → (isWord s cell word ≡ true) ↔ (placeAmong (word ∷ []) s cell ≡ 0)
+unfolding isWord placeAmong placeIn
+word-alone s cell word = go (cell .doubled) (sameBytes (contentAt s cell) word)
+  where
+    go : (d q : Bool) → (cond d false q ≡ true) ↔ (cond d 1 (cond q 0 (0 + 1)) ≡ 0)
+    go true q = ((λ e. untrue (sym e)), (λ e. absurd (omega arith)))
+    go false true = ((λ e. refl), (λ e. refl))
+    go false false = ((λ e. untrue (sym e)), (λ e. absurd (omega arith)))
 
 both-ways : (P : ℕ → Type 0) (q : Bool) {x y : ℕ} → P x → P y → P (cond q x y)
 both-ways P true a b = a
@@ -63,7 +70,7 @@ place-word (word ∷ words) c n h e = go (sameBytes c word) refl n h e (place-wo
         record { is = r .is; none-before = λ (k : ℕ). before k (r .none-before) }
       where
         before : (k : ℕ) → ((j : ℕ) → j < n → c ≡ getD words j [] → ⊥) → k < suc n → c ≡ getD (word ∷ words) k [] → ⊥
-        before zero rest l w = clash (sym (same-self word) ∙ (rw w at q))
+        before zero rest l w = untrue (sym (same-self word) ∙ (rw w at q))
         before (suc k) rest l w = rest k (omega arith) w
 
 -- and it is found where it is a word
@@ -85,7 +92,7 @@ place-none (word ∷ words) c e k h w = go (sameBytes c word) refl k h w (place-
     go : (q : Bool) → sameBytes c word ≡ q → (k : ℕ) → k < length (word ∷ words) → c ≡ getD (word ∷ words) k []
         → (placeIn words c ≡ length words → (j : ℕ) → j < length words → c ≡ getD words j [] → ⊥) → ⊥
     go true q k h w rest = omega (arith, rw q at e)
-    go false q zero h w rest = clash (sym (same-self word) ∙ (rw w at q))
+    go false q zero h w rest = untrue (sym (same-self word) ∙ (rw w at q))
     go false q (suc k) h w rest = rest (omega (arith, rw q at e)) k (omega arith) w
 
 -- what holds at the place of each word, and behind them all, holds at the place of a content
@@ -107,7 +114,7 @@ unfolding placeIn
 quote-no-word [] c none q = refl
 quote-no-word (word ∷ words) c (more n plain) q =
     let rest = quote-no-word words c plain q in
-    rw (same-false c word (λ e. clash (sym q ∙ ap holdsQuote e ∙ n))) (omega arith)
+    rw (same-false c word (λ e. untrue (sym q ∙ ap holdsQuote e ∙ n))) (omega arith)
 
 -- a field has the place of its content
 pub place-same : (s : List ℕ) {cell : Cell} (f : Field) (words : List (List ℕ)) → CellHolds s cell f → NoQuotes words
@@ -138,7 +145,7 @@ module _ (word : List ℕ) (words : List (List ℕ)) (s : List ℕ) (cell : Cell
   first-place e = go (cell .doubled) refl
     where
       go : (q : Bool) → cell .doubled ≡ q → placeAmong (word ∷ words) s cell ≡ 0
-      go true q = clash (sym (let z : false ≡ true = rw q at e in z))
+      go true q = untrue (sym (let z : false ≡ true = rw q at e in z))
       go false q = let z : sameBytes (contentAt s cell) word ≡ true = rw q at e in rw (z, q)
 
   next-place : isWord s cell word ≡ false → placeAmong (word ∷ words) s cell ≡ placeAmong words s cell + 1

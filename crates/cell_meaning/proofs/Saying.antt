@@ -111,8 +111,12 @@ digits-start c = record { answer = refl; small = omega arith; within = omega ari
 
 -- ---- proper numbers
 
-pub clash : {n : ℕ} {A : Type 0} → None ≡ Is n → A
-clash e = let z : _≡_ {A = ℕ} 0 1 = cc in absurd (omega arith)
+-- true is not false
+pub untrue : {A : Type 0} → true ≡ false → A
+untrue e = let z : _≡_ {A = ℕ} 0 1 = cc in absurd (omega arith)
+
+pub none-is-some : {n : ℕ} {A : Type 0} → None ≡ Is n → A
+none-is-some e = let z : _≡_ {A = ℕ} 0 1 = cc in absurd (omega arith)
 
 abbrev AllDigits : List ℕ → Type 0
 AllDigits c = (i : ℕ) → i < length c → Digit (getD c i 0)
@@ -138,13 +142,13 @@ digits-are v (b ∷ c) {n} e = low (ltb b 48) refl (λ h. digits-are (v * 10 + (
     all d ds (suc i) h = ds i (omega arith)
 
     high : (q : Bool) → ltb b 48 ≡ false → ltb 57 b ≡ q → (digitsFrom (v * 10 + (b - 48)) c ≡ Is n → DigitsAre (v * 10 + (b - 48)) n c) → DigitsAre v n (b ∷ c)
-    high true p q more = clash (rw (p, q) at e)
+    high true p q more = none-is-some (rw (p, q) at e)
     high false p q more =
         let m = more (rw (p, q) at e) in
         record { digits = all (record { from = ltb-false b 48 p; to = ltb-false 57 b q }) (m .digits); value = m .value }
 
     low : (q : Bool) → ltb b 48 ≡ q → (digitsFrom (v * 10 + (b - 48)) c ≡ Is n → DigitsAre (v * 10 + (b - 48)) n c) → DigitsAre v n (b ∷ c)
-    low true p more = clash (rw p at e)
+    low true p more = none-is-some (rw p at e)
     low false p more = high (ltb 57 b) p refl more
 
 needless-none : (c : List ℕ) → (getD c 0 0 ≡ 48 → length c ≤ 1) → needlessZero c ≡ false
@@ -176,18 +180,18 @@ unfolding numberIn
 read-proper c {n} e = go₁ (eqb (length c) 0) refl
   where
     go₃ : (q : Bool) → eqb (length c) 0 ≡ false → ltb width (length c) ≡ false → needlessZero c ≡ q → ProperNumber c n
-    go₃ true p₁ p₂ q = clash (rw (p₁, p₂, q) at e)
+    go₃ true p₁ p₂ q = none-is-some (rw (p₁, p₂, q) at e)
     go₃ false p₁ p₂ q =
         let d = digits-are 0 c (rw (p₁, p₂, q) at e) in
         let l = eqb-false (length c) 0 p₁ in
         record { some = omega arith; few = ltb-false width (length c) p₂; digits = d .digits; no-needless-zero = needless-not c q; value = d .value }
 
     go₂ : (q : Bool) → eqb (length c) 0 ≡ false → ltb width (length c) ≡ q → ProperNumber c n
-    go₂ true p₁ q = clash (rw (p₁, q) at e)
+    go₂ true p₁ q = none-is-some (rw (p₁, q) at e)
     go₂ false p₁ q = go₃ (needlessZero c) p₁ q refl
 
     go₁ : (q : Bool) → eqb (length c) 0 ≡ q → ProperNumber c n
-    go₁ true q = clash (rw q at e)
+    go₁ true q = none-is-some (rw q at e)
     go₁ false q = go₂ (ltb width (length c)) q refl
 
 -- digits behind those that make v are worth less than one more of v's last
@@ -217,5 +221,5 @@ unfolding numberAt
 number-small s cell {n} e = go (cell .doubled) refl
   where
     go : (q : Bool) → cell .doubled ≡ q → n < 10 ^ width
-    go true q = clash (rw q at e)
+    go true q = none-is-some (rw q at e)
     go false q = proper-small _ n (read-proper _ (rw q at e))

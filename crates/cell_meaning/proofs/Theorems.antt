@@ -4,7 +4,7 @@ use Prim.Native.Nat.{ℕ, _<_}
 use mathlib.Core.Path.{_≡_}
 use mathlib.Core.Logic.{_↔_}
 use mathlib.Core.Bool.{false, true}
-use mathlib.Core.List.{List}
+use mathlib.Core.List.{List, [], _∷_}
 use lib.ListN.{length}
 use Rattle.grammar.specs.declared.cut.Cell.{Cell}
 use Rattle.grammar.specs.declared.cut.Cells.{Cells}
@@ -26,6 +26,10 @@ module _ (s : List ℕ) where
   pub word-is-found : {cell : Cell} (f : Field) (words : List (List ℕ)) (n : ℕ) → CellHolds s cell f → naming.NoQuotes words → n < length words
       → (placeAmong words s cell ≡ n) ↔ WordAt words (content f) n
   word-is-found f words n h plain l = naming.place-exact s f words n h plain l
+
+  -- A field is a word exactly when it is found among that word alone: a header's three words are found as every other word is.
+  pub word-is-found-alone : (cell : Cell) (word : List ℕ) → (isWord s cell word ≡ true) ↔ (placeAmong (word ∷ []) s cell ≡ 0)
+  word-is-found-alone cell word = naming.word-alone s cell word
 
   -- A row says three words without quotes exactly when it has three fields with these contents.
   pub words-are-contents : {cells : Cells} (r : Row) (x y z : List ℕ) → RowHolds s cells r → holdsQuote x ≡ false → holdsQuote y ≡ false → holdsQuote z ≡ false
