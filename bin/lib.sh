@@ -43,24 +43,27 @@ is_proved() { # PROGRAM
     [ -x "$root/target/bin/$1" ] && [ -f "$root/target/stamp/$1" ]
 }
 
-# The same, and none of its sources is newer.
+# The same, and none of its sources is newer, or gone (find says so).
 is_built() { # PROGRAM CRATES
     is_proved "$1" || return 1
     newer=$(
+        find "$root/crates.txt" -newer "$root/target/bin/$1" 2>&1
         for crate in $2; do
-            find "$root/crates.txt" "$root/crates/$crate" -newer "$root/target/bin/$1" -print
+            find "$root/crates/$crate" -newer "$root/target/bin/$1" 2>&1
         done
     )
     [ -z "$newer" ]
 }
 
-# Says of each crate that it is proved and how many are left; the whole of what rt says goes to a log.
+# Says of each crate that it is proved and how many are left; the whole of what rt says goes to a log. True if rt ended with
+# "ok": it says that only when all is proved and run.
 progress() { # LOG LEFT
-    left=$2
+    left=$2 is_ok=false
     while IFS= read -r line; do
         printf '%s\n' "$line" >>"$1"
         crate=${line#rt: }
         case $line in
+        'rt: ok, '*) is_ok=true ;;
         'rt: '*' NOT PROVED'*) say "$crate" ;;
         'rt: '*' proved ('*)
             left=$((left - 1))
@@ -68,17 +71,20 @@ progress() { # LOG LEFT
             ;;
         esac
     done
+    "$is_ok"
 }
 
-# Proves and builds a program, which rt leaves in target/bin; it counts as old as the moment when that began.
+# Proves and builds a program, which rt leaves in target/bin; it counts as old as the moment when that began. When rt fails, the
+# program of before stays older than its sources, and isn't run.
 build() { # PROGRAM CRATES
     need_kit
     log=$root/target/log/$1.build
     { mkdir -p "$root/target/log" && : >"$log" && : >"$log.begun"; } || fail "nothing can be built in $root/target"
     count=$(printf '%s\n' "$2" | wc -l)
     say "the program $1 is proved and built anew, from $((count)) crates; what rt says is in $log"
-    (cd "$root" && rt check "$1" 2>&1) | progress "$log" "$count"
-    is_proved "$1" || fail "there is no proved program $1; $log says why"
+    [ -x "$root/target/bin/$1" ] || rm -f "$root/target/stamp/$1" # else rt takes a program that is gone for proved and built
+    (cd "$root" && rt check "$1") 2>&1 | progress "$log" "$count" && is_proved "$1" ||
+        fail "there is no proved program $1: $(tail -n 1 "$log"); what else rt said is in $log"
     touch -r "$log.begun" "$root/target/bin/$1"
 }
 
