@@ -80,20 +80,48 @@ def alters(crate, text, cited):
     return next(kind for kind in KINDS if kind in found)
 
 
-def edits(crate, cited):
-    """The edits of a crate: the name, what it alters, and the wrong answer."""
+def edit_files(crate):
+    """The files of a crate's edits: the name, and the text."""
     folder = os.path.join("crates", crate, "must-fail")
     for name in sorted(os.listdir(folder)) if os.path.isdir(folder) else []:
-        text = read(folder, name)
+        yield name, read(folder, name)
+
+
+def check_texts(listed):
+    """Each edit says its wrong answer first, and each text that it replaces is in its file, once."""
+    for crate in listed:
+        for name, text in edit_files(crate):
+            edit = f"crates/{crate}/must-fail/{name}"
+            if not re.match(r"# *\S", text):
+                yield f"{edit} does not say the wrong answer in its first line"
+            if not list(pairs(text)):
+                yield f"{edit} replaces nothing"
+            for file, old in pairs(text):
+                path = os.path.join("crates", crate, file)
+                if not os.path.isfile(path):
+                    yield f"{edit} alters {file}, which is not there"
+                elif old not in read(path):
+                    yield f"{edit} replaces a text that is not in {file}: {old}"
+                elif read(path).count(old) > 1:
+                    yield f"{edit} replaces a text that is in {file} more than once: {old}"
+
+
+def edits(crate, cited):
+    """The edits of a crate: the name, what it alters, and the wrong answer."""
+    for name, text in edit_files(crate):
         said = re.match(r"# *(.*)", text).group(1).strip()
         yield name[: -len(".edit")], alters(crate, text, cited), said[0].upper() + said[1:].rstrip(".") + "."
 
 
+def crates():
+    """The crates, as crates.txt lists them."""
+    return re.findall(r"^(\w+):", read("crates.txt"), re.M)
+
+
 def section():
-    """The last section of the page: the edits, crate by crate as crates.txt lists them, and how many there are of each kind."""
+    """The last section of the page: the edits, crate by crate, and how many there are of each kind."""
     cited = promised()
-    listed = re.findall(r"^(\w+):", read("crates.txt"), re.M)
-    found = [(crate, *edit) for crate in listed for edit in edits(crate, cited)]
+    found = [(crate, *edit) for crate in crates() for edit in edits(crate, cited)]
     count = {kind: sum(edit[2] == kind for edit in found) for kind in KINDS}
     head = f"{HEADING}\n\n{len(found)} edits: {count['code']} alter code, {count['promise']} a promise, {count['definition']} a definition, {count['theorem']} what a theorem says."
     rows = [f"| `{crate}` | `{name}` | {kind} | {said} |" for crate, name, kind, said in found]
@@ -107,12 +135,15 @@ def page():
 
 
 def faults():
-    if page() != read(PAGE):
+    """The edits that can't be made; and where there are none, whether the table is as the edits are."""
+    found = list(check_texts(crates()))
+    yield from found
+    if not found and page() != read(PAGE):
         yield f"{PAGE}: the table of must-fail edits is not as the edits are; `python3 tests/edits.py --write` writes it anew"
 
 
 def main():
-    if sys.argv[1:] == ["--write"]:
+    if sys.argv[1:] == ["--write"] and not list(check_texts(crates())):
         text = page()
         with open(PAGE, "w", encoding="utf-8") as file:
             file.write(text)
