@@ -8,6 +8,8 @@ import re
 import sys
 
 import edits
+from edits import read
+from names import name_faults
 
 FUNCTION = re.compile(r"^\s*(?:#\[[^\]]*\]\s*)?pub\s+(?:extern\s+\"C\"\s+)?fn\s+([a-z_0-9]+)", re.M)
 BODY = re.compile(r"^\s*[{}]$", re.M)
@@ -58,11 +60,6 @@ OUTSIDE = {"sheet_files::read_sheet", "sheet_files::read_asked", "program_io::nu
 PUT_TOGETHER = {"plan": "Plan"}
 
 faults = []
-
-
-def read(*path):
-    with open(os.path.join(*path), encoding="utf-8") as file:
-        return file.read()
 
 
 def crates():
@@ -244,40 +241,6 @@ def check_map(listed):
             faults.append(f"README.md does not say what the crate {crate} stands on as crates.txt does")
 
 
-def check_paths():
-    """Each path to a file of the project that a document writes in backticks is there (NAME stands for any crate)."""
-    pages = ["README.md"] + [os.path.join("docs", n) for n in sorted(os.listdir("docs")) if n.endswith(".md")]
-    for page in pages:
-        for path in re.findall(r"`((?:crates|docs|tests|bin|bench|examples|\.ci)/[A-Za-z_0-9./-]+)`", read(page)):
-            if "/NAME" not in path and not os.path.exists(path):
-                faults.append(f"{page} names {path}, which is not there")
-
-
-PATH = re.compile(r"(?<![\w./])((?:crates/)?(?:[a-z_]+/)?(?:specs|proofs|src)/[A-Za-z_0-9/]+\.(?:antt|rt)|(?:tests|bin|bench|docs)/[A-Za-z_0-9./-]*\w)")
-
-
-def sources():
-    """The files of Rattle and of antt, each with its crate."""
-    for folder, _, names in os.walk("crates"):
-        for name in sorted(names):
-            if name.endswith((".rt", ".antt")):
-                yield os.path.join(folder, name), folder.split(os.sep)[1]
-
-
-def check_comments(listed):
-    """Each path that a comment names is there, from the root, from `crates` or from the comment's own crate; and so is each crate."""
-    for path, crate in sources():
-        for number, line in enumerate(read(path).splitlines(), 1):
-            if not line.strip().startswith(("//", "--")):
-                continue
-            for named in PATH.findall(line):
-                if not any(os.path.exists(os.path.join(*at, named)) for at in [(".",), ("crates",), ("crates", crate)]):
-                    faults.append(f"{path}:{number} names {named}, which is not there")
-            for named in re.findall(r"\bcrate `([a-z_]+)`", line):
-                if named not in listed:
-                    faults.append(f"{path}:{number} names the crate {named}, which is not there")
-
-
 def defines(text, name):
     """Whether a file of definitions or theorems has this name as one of its own that others can use."""
     return re.search(r"^\s*(?:(?:abbrev|unfoldable) )?pub (?:data |record )?%s[ :]" % re.escape(name), text, re.M)
@@ -310,9 +273,8 @@ def main():
     check_promises(listed)
     check_fields(listed)
     check_map(listed)
-    check_paths()
     check_rules()
-    check_comments(listed)
+    faults.extend(name_faults(listed))
     faults.extend(edits.faults())
     for fault in faults:
         print(fault)

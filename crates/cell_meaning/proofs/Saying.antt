@@ -1,4 +1,4 @@
--- Words and numbers: what the loops of `say` have to know of specs/Say.antt, and that its tests are its facts.
+-- Words and numbers: what the loops of `cells` have to know of specs/Say.antt, and that its tests are its facts.
 -- Assumes nothing.
 use Prim.Native.Nat.{ℕ, zero, suc, _+_, _-_, _*_, _^_, _≤_, _<_}
 use native.Mathlib.Nat.{pow-suc, pow-succ', pow-le-pow-right, mul-assoc, mul-le-mul-right}

@@ -1,4 +1,4 @@
--- `rounds::text_in_rounds` is safe and ends. The measure is the number of rounds that are left; the list keeps its length.
+-- `bench_rounds::text_in_rounds` is safe and ends. The measure is the number of rounds that are left; the list keeps its length.
 -- Assumes nothing.
 use borrow.Author.Needs.{needs}
 use Prim.Native.Nat.{_-_}

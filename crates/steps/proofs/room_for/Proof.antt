@@ -1,4 +1,4 @@
--- `room_for` meets its contract: the tests of `roomFor`, one after the other. Assumes nothing.
+-- `room_for` meets its contract: the tests of `roomForSteps`, one after the other. Assumes nothing.
 use Rattle.tables.proofs.Cases.{test-chain}
 use Rattle.steps_sheet.specs.Lent.{roomForSteps}
 use Rattle.steps.proofs.room_for.Statement.{statement}

@@ -1,0 +1,215 @@
+"""The names: each that a comment or a document writes in backticks is there.
+
+A word is there if code has it, outside comments: what is proved has no name that isn't defined. A comment of a crate may speak of that
+crate, of those that it stands on and of those that it names; a document, and a comment of a test or a command, of all. Beside words of
+code there are the names of crates, files, folders and must-fail edits. Run it at the project's root (tests/documents.py does).
+"""
+import functools
+import glob
+import os
+import re
+
+from edits import crates, read
+
+FRAGMENT = re.compile(r"`([^`\n]+)`")
+# A word has two letters at least: a single one stands for anything.
+WORD = re.compile(r"[^\W\d][\w-]+")
+# Among several words, as in a term or in a row of a sheet, the plain ones may stand for anything too: a name has two parts, or a capital.
+NAME = re.compile(r".*[A-Z_-]")
+QUALIFIED = re.compile(r"\w+(?:::\w+)+")
+PATH = re.compile(r"[\w.*-]*(?:/[\w.*-]+)+/?|[\w-]+/|[\w-]+\.(?:antt|rt|md|py|sh|csv|txt|c)")
+CALLED_CRATE = re.compile(r"\bcrate `(\w+)`")
+# A word that may be a crate's.
+CRATE = re.compile(r"\w+(?=[`/])")
+# A path without backticks.
+BARE_PATH = re.compile(r"(?<![\w./`])((?:crates/)?(?:[a-z_]+/)?(?:specs|proofs|src)/[A-Za-z_0-9/]+\.(?:antt|rt)|(?:tests|bin|bench|docs)/[A-Za-z_0-9./-]*\w)")
+
+# The steps' words: a sheet has them, and crates below `steps_sheet` speak of them.
+STEPS = {"card", "decide", "green", "red", "walk", "tick", "passed", "lapsed", "dark", "ack"}
+# Words that stand for any name.
+ANY = {"NAME", "FILE", "FUNCTION", "PROGRAM", "NNNN"}
+# What begins with one of these is said to another program.
+PROGRAMS = {"rt", "python3", "ssconvert", "sed", "head"}
+# What isn't ours, by where it stands.
+ELSEWHERE = {
+    "crates/machines": {"init"},  # an event of 001, which has no name here
+    "docs/CHAPTER.md": {"inv4_1"},  # as 001 writes it
+    "docs/DECISIONS.md": {"serving", "files", "saying", "line_of", "No"},  # what was called so before; the ending of a name
+    "docs/SHEETS.md": {"writer", "newline"},  # Python's
+}
+
+
+# ---- Reading
+
+@functools.lru_cache(maxsize=None)
+def parted(text, mark):
+    """The words of a file's code, and its comments: blocks of lines, each line with its number."""
+    words, blocks, block = set(), [], []
+    for number, line in enumerate(text.splitlines() + [""], 1):
+        if line.lstrip().startswith(mark):
+            block.append((number, line))
+            continue
+        if block:
+            blocks.append(block)
+            block = []
+        words.update(WORD.findall(line))
+    return words, blocks
+
+
+@functools.lru_cache(maxsize=None)
+def parted_script(text):
+    """The same of a test or a command; what stands between three quotes at the beginning of a line is a comment too."""
+    said = [m for m in re.finditer(r'"""(.*?)"""', text, re.S) if not text[: m.start()].split("\n")[-1].strip()]
+    blocks = [list(enumerate(m.group(1).split("\n"), text.count("\n", 0, m.start()) + 1)) for m in said]
+    for m in reversed(said):
+        text = text[: m.start()] + "\n" * m.group().count("\n") + text[m.end() :]
+    words, more = parted(text, "#")
+    return words, blocks + more
+
+
+def sources():
+    """The files of the crates that have comments, each with its crate and the mark of a comment."""
+    for crate in crates():
+        for folder, folders, names in os.walk(os.path.join("crates", crate)):
+            folders[:] = sorted(set(folders) - {"data"})
+            for name in sorted(names):
+                mark = {".rt": "//", ".antt": "--", ".edit": "#"}.get(os.path.splitext(name)[1])
+                if mark:
+                    yield os.path.join(folder, name), crate, mark
+
+
+def scripts():
+    """The tests and the commands."""
+    for folder in ("bin", "tests", os.path.join("tests", "reference"), "bench", ".ci"):
+        for name in sorted(os.listdir(folder)):
+            path = os.path.join(folder, name)
+            if os.path.isfile(path) and not name.endswith(".c"):
+                yield path
+
+
+def pages():
+    """The documents."""
+    return ["README.md", os.path.join("examples", "README.md")] + sorted(glob.glob("docs/**/*.md", recursive=True))
+
+
+def file_names():
+    """The names of files and folders, and of must-fail edits."""
+    for top in ("crates", "examples", "docs", "tests", "bin", "bench"):
+        for _, folders, names in os.walk(top):
+            yield from folders
+            yield from (name[:-5] if name.endswith(".edit") else name for name in names)
+
+
+@functools.lru_cache(maxsize=None)
+def members_in(text):
+    """What a file of code has, and what each of its types has."""
+    whole = re.findall(r"^\s*(?:pub(?:\(crate\))? )?(?:fn|struct|enum|const|mod) (\w+)", text, re.M)
+    types = re.findall(r"^(?:impl|pub enum)(?:<[^>]*>)? (\w+)[^\n]*\{\n(.*?)^\}", text, re.M | re.S)
+    return whole, [(owner, name) for owner, body in types for name in re.findall(r"^    (?:pub )?(?:fn |const )?(\w+)", body, re.M)]
+
+
+def members():
+    """The pairs of an owner and a member: what a crate, a module or a type has."""
+    found = set()
+    for path, crate, mark in sources():
+        if mark == "//":
+            module = os.path.basename(path)[:-3]
+            whole, of_types = members_in(read(path))
+            found |= {(owner, name) for owner in (crate, module) for name in whole} | {(crate, module)} | set(of_types)
+    return found
+
+
+# ---- What is in backticks is there
+
+def on(listed, crate):
+    """A crate, and those that it stands on, itself or by others."""
+    found, left = set(), [crate]
+    while left:
+        name = left.pop()
+        if name in listed and name not in found:
+            found.add(name)
+            left += listed[name]
+    return found
+
+
+def is_path(path, folders):
+    """Whether there is such a file or folder; a word for any name stands for each."""
+    path = "/".join("*" if part in ANY else part for part in path.split("/"))
+    there = glob.glob if "*" in path else os.path.exists
+    return any(there(os.path.join(folder, path)) for folder in folders)
+
+
+def lost_in(fragment, words, pairs, folders):
+    """The parts of what stands between backticks that aren't there."""
+    pieces = fragment.split()
+    if pieces[0] in PROGRAMS or pieces[0].startswith("-"):
+        return
+    alone = re.fullmatch(r"[\w.:-]+", fragment)
+    for piece in pieces:
+        if PATH.fullmatch(piece):
+            if not is_path(piece, folders):
+                yield piece
+        elif QUALIFIED.fullmatch(piece):
+            parts = piece.split("::")
+            if not all(pair in pairs for pair in zip(parts, parts[1:])):
+                yield piece
+        else:
+            for word in WORD.findall(piece):
+                begins = word.endswith("-") and any(known.startswith(word) for known in words)
+                if word not in words and word not in ANY and not begins and (alone or NAME.match(word)):
+                    yield word
+
+
+class Lines:
+    """The lines of comments and documents, and the names that each may use."""
+
+    def __init__(self, listed):
+        self.pairs, self.of_crate = members(), {crate: set() for crate in listed}
+        for path, crate, mark in sources():
+            if mark != "#":
+                self.of_crate[crate] |= parted(read(path), mark)[0]
+        self.always = STEPS | set(listed) | set(os.listdir("bin"))
+        self.all = self.always.union(file_names(), *self.of_crate.values())
+        self.below = {crate: on(listed, crate) for crate in listed}
+        self.reached = {}
+
+    def words_for(self, crate, block):
+        """The words that a comment of a crate may use."""
+        named = {name for _, line in block for name in CRATE.findall(line) if name in self.below}
+        key = frozenset(named | {crate})
+        if key not in self.reached:
+            reached = set().union(*(self.below[name] for name in key))
+            self.reached[key] = self.always.union(*(self.of_crate[name] for name in reached))
+        return self.reached[key]
+
+    def lines(self):
+        """Each line that is held to the names: the file, the number, the text, the words that it may use, and where its paths begin."""
+        for path, crate, mark in sources():
+            for block in parted(read(path), mark)[1]:
+                words = self.words_for(crate, block)
+                for number, line in block:
+                    yield path, number, line, words, [".", "crates", os.path.join("crates", crate)]
+        of_scripts = self.all.union(*(parted_script(read(path))[0] for path in scripts()))
+        for path in scripts():
+            for block in parted_script(read(path))[1]:
+                for number, line in block:
+                    yield path, number, line, of_scripts, [".", os.path.dirname(path)]
+        anywhere = glob.glob("crates/*") + glob.glob("examples/*")
+        for path in pages():
+            for number, line in enumerate(read(path).splitlines(), 1):
+                yield path, number, line, self.all, [".", "crates"] + anywhere
+
+    def faults(self):
+        """What is named in a line and isn't there."""
+        for path, number, line, words, folders in self.lines():
+            lost = [piece for fragment in FRAGMENT.findall(line) for piece in lost_in(fragment, words, self.pairs, folders)]
+            lost += [piece for piece in BARE_PATH.findall(line) if not is_path(piece, folders)]
+            lost += [f"the crate {name}" for name in CALLED_CRATE.findall(line) if name not in self.below]
+            for piece in lost:
+                if not any(path.startswith(place) and piece in allowed for place, allowed in ELSEWHERE.items()):
+                    yield f"{path}:{number} names {piece}, which is not there"
+
+
+def name_faults(listed):
+    """The faults of all names."""
+    yield from Lines(listed).faults()
