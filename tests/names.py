@@ -1,4 +1,5 @@
-"""The names: each that a comment or a document writes in backticks is there.
+"""The names: each that a comment or a document writes in backticks is there, and no two public definitions of different meaning share
+one.
 
 A word is there if code has it, outside comments: what is proved has no name that isn't defined. A comment of a crate may speak of that
 crate, of those that it stands on and of those that it names; a document, and a comment of a test or a command, of all. Beside words of
@@ -210,6 +211,69 @@ class Lines:
                     yield f"{path}:{number} names {piece}, which is not there"
 
 
+# ---- No two public definitions of different meaning share a name
+
+# Names that two definitions of different meaning still share, until one of the two is renamed; none is added here.
+SHARED = {"Asked", "Ends", "asked", "clash", "does", "follows", "four", "fresh-sound", "line-same", "row-more", "steps-unique"}
+
+DEFINED = re.compile(r" *(?:(?:abbrev|unfoldable) )?pub (?:record |data |ruleset )?(?!mod |use )([^\s:({]+)")
+ITEM = re.compile(r"^pub (?:extern \"C\" )?(?:fn|struct|enum|const) (\w+)", re.M)
+
+
+@functools.lru_cache(maxsize=None)
+def defined_in(text):
+    """The public definitions and theorems of a file; the fields of a record and the cases of data are none."""
+    found, within = [], None
+    for line in text.splitlines():
+        indent = len(line) - len(line.lstrip())
+        if not line.strip() or line.lstrip().startswith("--") or within is not None and indent > within:
+            continue
+        within = indent if re.match(r" *(?:pub )?(?:record|data) ", line) else None
+        if DEFINED.match(line):
+            found.append(DEFINED.match(line).group(1))
+    return found
+
+
+def places():
+    """The public names, each with the files that define it. A method has its type's name in front, and isn't looked at."""
+    found = {}
+    for path, _, mark in sources():
+        if mark != "#":
+            for name in defined_in(read(path)) if mark == "--" else ITEM.findall(read(path)):
+                found.setdefault(name, []).append(path)
+    return found
+
+
+def meaning(name, path):
+    """What a definition means: two that may share a name mean the same."""
+    escaped = re.escape(name)
+    # each of the five machines has its events, guards and so on
+    if re.fullmatch(r"crates/machines/specs/M[0-4]\.antt", path):
+        return "of each machine"
+    # that a function meets its contract
+    if name.endswith("-spec") and path.endswith("/Proof.antt"):
+        return "of each function"
+    # `demands` hands a theorem of a crate below on under its name
+    if path.startswith("crates/demands/proofs/") and re.search(rf"^{escaped} .*= \w+\.{escaped}( |$)", read(path), re.M):
+        return None
+    # a function that answers what the definition of its name says
+    if path.endswith(".rt") and re.search(rf"^pub fn {escaped}\b.*\n +ensures .*≡ {escaped} ", read(path), re.M):
+        return None
+    return path
+
+
+def check_shared():
+    """No two public definitions share a name, but for those that mean the same by it."""
+    several = {name: paths for name, paths in places().items() if len(paths) > 1}
+    found = {name: paths for name, paths in several.items()
+             if len({meaning(name, path) for path in paths} - {None}) > 1 or len(paths) > len(set(paths))}
+    for name in sorted(set(found) - SHARED):
+        yield f"{name} is defined in {' and in '.join(sorted(found[name]))}, which don't mean the same by it"
+    for name in sorted(SHARED - set(found)):
+        yield f"tests/names.py allows that {name} is shared, which it isn't any more"
+
+
 def name_faults(listed):
     """The faults of all names."""
     yield from Lines(listed).faults()
+    yield from check_shared()
