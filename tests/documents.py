@@ -9,7 +9,7 @@ import sys
 
 import edits
 from edits import read
-from names import name_faults
+from names import lost_names, shared_names
 
 FUNCTION = re.compile(r"^\s*(?:#\[[^\]]*\]\s*)?pub\s+(?:extern\s+\"C\"\s+)?fn\s+([a-z_0-9]+)", re.M)
 BODY = re.compile(r"^\s*[{}]$", re.M)
@@ -246,7 +246,7 @@ def defines(text, name):
     return re.search(r"^\s*(?:(?:abbrev|unfoldable) )?pub (?:data |record )?%s[ :]" % re.escape(name), text, re.M)
 
 
-def check_rules():
+def check_rules(_):
     """Each rule of docs/RULES.md has the next number, and each definition and theorem that it names stands in the file beside it."""
     page = read("docs", "RULES.md")
     rules = re.findall(r"^\| (\d+) \| ([^|]*) \| ([^|]*) \| ([^|]*) \|$", page, re.M)
@@ -267,19 +267,39 @@ def check_rules():
                 faults.append(f"docs/RULES.md names {name} in crates/{path}, which does not have it")
 
 
-def main():
-    listed = crates()
-    check_edits(listed)
-    check_promises(listed)
-    check_fields(listed)
-    check_map(listed)
-    check_rules()
-    faults.extend(name_faults(listed))
+def check_words(listed):
+    """Each name that a comment or a document writes in backticks is there."""
+    faults.extend(lost_names(listed))
+
+
+def check_shared(_):
+    """No two public definitions of different meaning share a name."""
+    faults.extend(shared_names())
+
+
+def check_table(_):
+    """The texts that the must-fail edits replace are there, and docs/PROMISES.md has the table of them."""
     faults.extend(edits.faults())
-    for fault in faults:
+
+
+CHECKS = (check_edits, check_promises, check_fields, check_map, check_rules, check_words, check_shared, check_table)
+
+
+def find_faults(checks):
+    """What these checks find wrong now."""
+    faults.clear()
+    listed = crates()
+    for check in checks:
+        check(listed)
+    return list(faults)
+
+
+def main():
+    found = find_faults(CHECKS)
+    for fault in found:
         print(fault)
-    print(f"documents: {len(listed)} crates, {len(faults)} faults")
-    return 1 if faults else 0
+    print(f"documents: {len(crates())} crates, {len(found)} faults")
+    return 1 if found else 0
 
 
 if __name__ == "__main__":

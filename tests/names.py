@@ -40,43 +40,50 @@ ELSEWHERE = {
 }
 
 
-# ---- Reading
+# ---- Reading. Which files there are is looked up once; what they hold may change (tests/wrong_documents.py changes it).
+
+def named_in(lines):
+    """The lines that may name anything: those with a backtick or a slash."""
+    return [(number, line) for number, line in lines if "`" in line or "/" in line]
+
 
 @functools.lru_cache(maxsize=None)
 def parted(text, mark):
-    """The words of a file's code, and its comments: blocks of lines, each line with its number."""
+    """The words of a file's code, and its comments: blocks of lines that name anything, each line with its number."""
     words, blocks, block = set(), [], []
     for number, line in enumerate(text.splitlines() + [""], 1):
         if line.lstrip().startswith(mark):
             block.append((number, line))
             continue
-        if block:
-            blocks.append(block)
-            block = []
+        blocks.append(named_in(block))
+        block = []
         words.update(WORD.findall(line))
-    return words, blocks
+    return words, list(filter(None, blocks))
 
 
 @functools.lru_cache(maxsize=None)
 def parted_script(text):
     """The same of a test or a command; what stands between three quotes at the beginning of a line is a comment too."""
     said = [m for m in re.finditer(r'"""(.*?)"""', text, re.S) if not text[: m.start()].split("\n")[-1].strip()]
-    blocks = [list(enumerate(m.group(1).split("\n"), text.count("\n", 0, m.start()) + 1)) for m in said]
+    blocks = [named_in(enumerate(m.group(1).split("\n"), text.count("\n", 0, m.start()) + 1)) for m in said]
     for m in reversed(said):
         text = text[: m.start()] + "\n" * m.group().count("\n") + text[m.end() :]
     words, more = parted(text, "#")
     return words, blocks + more
 
 
+@functools.lru_cache(maxsize=None)
 def sources():
     """The files of the crates that have comments, each with its crate and the mark of a comment."""
+    found = []
     for crate in crates():
         for folder, folders, names in os.walk(os.path.join("crates", crate)):
             folders[:] = sorted(set(folders) - {"data"})
             for name in sorted(names):
                 mark = {".rt": "//", ".antt": "--", ".edit": "#"}.get(os.path.splitext(name)[1])
                 if mark:
-                    yield os.path.join(folder, name), crate, mark
+                    found.append((os.path.join(folder, name), crate, mark))
+    return found
 
 
 def scripts():
@@ -93,12 +100,14 @@ def pages():
     return ["README.md", os.path.join("examples", "README.md")] + sorted(glob.glob("docs/**/*.md", recursive=True))
 
 
+@functools.lru_cache(maxsize=None)
 def file_names():
     """The names of files and folders, and of must-fail edits."""
+    found = set()
     for top in ("crates", "examples", "docs", "tests", "bin", "bench"):
         for _, folders, names in os.walk(top):
-            yield from folders
-            yield from (name[:-5] if name.endswith(".edit") else name for name in names)
+            found.update(folders, (name.removesuffix(".edit") for name in names))
+    return found
 
 
 @functools.lru_cache(maxsize=None)
@@ -133,6 +142,7 @@ def on(listed, crate):
     return found
 
 
+@functools.lru_cache(maxsize=None)
 def is_path(path, folders):
     """Whether there is such a file or folder; a word for any name stands for each."""
     path = "/".join("*" if part in ANY else part for part in path.split("/"))
@@ -162,13 +172,14 @@ def lost_in(fragment, words, pairs, folders):
 
 
 class Lines:
-    """The lines of comments and documents, and the names that each may use."""
+    """The lines of comments and documents that name anything, and the names that each may use."""
 
     def __init__(self, listed):
         self.pairs, self.of_crate = members(), {crate: set() for crate in listed}
-        for path, crate, mark in sources():
-            if mark != "#":
-                self.of_crate[crate] |= parted(read(path), mark)[0]
+        self.files = [(path, crate, *parted(read(path), mark)) for path, crate, mark in sources()]
+        for path, crate, words, _ in self.files:
+            if not path.endswith(".edit"):
+                self.of_crate[crate] |= words
         self.always = STEPS | set(listed) | set(os.listdir("bin"))
         self.all = self.always.union(file_names(), *self.of_crate.values())
         self.below = {crate: on(listed, crate) for crate in listed}
@@ -184,23 +195,23 @@ class Lines:
         return self.reached[key]
 
     def lines(self):
-        """Each line that is held to the names: the file, the number, the text, the words that it may use, and where its paths begin."""
-        for path, crate, mark in sources():
-            for block in parted(read(path), mark)[1]:
+        """Each line: the file, the number, the text, the words that it may use, and where its paths begin."""
+        for path, crate, _, blocks in self.files:
+            for block in blocks:
                 words = self.words_for(crate, block)
                 for number, line in block:
-                    yield path, number, line, words, [".", "crates", os.path.join("crates", crate)]
+                    yield path, number, line, words, (".", "crates", os.path.join("crates", crate))
         of_scripts = self.all.union(*(parted_script(read(path))[0] for path in scripts()))
         for path in scripts():
             for block in parted_script(read(path))[1]:
                 for number, line in block:
-                    yield path, number, line, of_scripts, [".", os.path.dirname(path)]
-        anywhere = glob.glob("crates/*") + glob.glob("examples/*")
+                    yield path, number, line, of_scripts, (".", os.path.dirname(path))
+        anywhere = (".", "crates", *glob.glob("crates/*"), *glob.glob("examples/*"))
         for path in pages():
-            for number, line in enumerate(read(path).splitlines(), 1):
-                yield path, number, line, self.all, [".", "crates"] + anywhere
+            for number, line in named_in(enumerate(read(path).splitlines(), 1)):
+                yield path, number, line, self.all, anywhere
 
-    def faults(self):
+    def lost(self):
         """What is named in a line and isn't there."""
         for path, number, line, words, folders in self.lines():
             lost = [piece for fragment in FRAGMENT.findall(line) for piece in lost_in(fragment, words, self.pairs, folders)]
@@ -209,6 +220,11 @@ class Lines:
             for piece in lost:
                 if not any(path.startswith(place) and piece in allowed for place, allowed in ELSEWHERE.items()):
                     yield f"{path}:{number} names {piece}, which is not there"
+
+
+def lost_names(listed):
+    """The names in comments and documents that aren't there."""
+    return Lines(listed).lost()
 
 
 # ---- No two public definitions of different meaning share a name
@@ -262,8 +278,8 @@ def meaning(name, path):
     return path
 
 
-def check_shared():
-    """No two public definitions share a name, but for those that mean the same by it."""
+def shared_names():
+    """The names that public definitions of different meaning share, and those that aren't shared any more."""
     several = {name: paths for name, paths in places().items() if len(paths) > 1}
     found = {name: paths for name, paths in several.items()
              if len({meaning(name, path) for path in paths} - {None}) > 1 or len(paths) > len(set(paths))}
@@ -271,9 +287,3 @@ def check_shared():
         yield f"{name} is defined in {' and in '.join(sorted(found[name]))}, which don't mean the same by it"
     for name in sorted(SHARED - set(found)):
         yield f"tests/names.py allows that {name} is shared, which it isn't any more"
-
-
-def name_faults(listed):
-    """The faults of all names."""
-    yield from Lines(listed).faults()
-    yield from check_shared()
