@@ -229,9 +229,6 @@ def lost_names(listed):
 
 # ---- No two public definitions of different meaning share a name
 
-# Names that two definitions of different meaning still share, until one of the two is renamed; none is added here.
-SHARED = {"Asked", "Ends", "asked", "clash", "does", "follows", "four", "fresh-sound", "line-same", "row-more", "steps-unique"}
-
 DEFINED = re.compile(r" *(?:(?:abbrev|unfoldable) )?pub (?:record |data |ruleset )?(?!mod |use )([^\s:({]+)")
 ITEM = re.compile(r"^pub (?:extern \"C\" )?(?:fn|struct|enum|const) (\w+)", re.M)
 
@@ -279,11 +276,9 @@ def meaning(name, path):
 
 
 def shared_names():
-    """The names that public definitions of different meaning share, and those that aren't shared any more."""
+    """The names that public definitions of different meaning share."""
     several = {name: paths for name, paths in places().items() if len(paths) > 1}
     found = {name: paths for name, paths in several.items()
              if len({meaning(name, path) for path in paths} - {None}) > 1 or len(paths) > len(set(paths))}
-    for name in sorted(set(found) - SHARED):
+    for name in sorted(found):
         yield f"{name} is defined in {' and in '.join(sorted(found[name]))}, which don't mean the same by it"
-    for name in sorted(SHARED - set(found)):
-        yield f"tests/names.py allows that {name} is shared, which it isn't any more"

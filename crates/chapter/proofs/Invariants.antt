@@ -123,9 +123,9 @@ module _ (r : Record) (d : ℕ) where
   blocked h ne = record { exists = h; phase = rw (ne-eqb (getD (r .phase) d 0) free ne) }
 
   -- a blocked reader is in one of the four situations
-  pub four : Sound r → DoorIn r BLR d → (dom (CardAt r) ∪ stateOf3 r .set m3.grn ∪ stateOf3 r .set m3.red ∪ DoorIn r mAckn) d
+  pub one-of-the-four : Sound r → DoorIn r BLR d → (dom (CardAt r) ∪ stateOf3 r .set m3.grn ∪ stateOf3 r .set m3.red ∪ DoorIn r mAckn) d
   unfolding isIn
-  four s b =
+  one-of-the-four s b =
       let all : PhaseWithin r d read closed = record { exists = b .exists; low = pos-of-ne-zero (in-BLR b); high = s .doors d (b .exists) .known } in
       ⊎-elim (λ e. inl (getD (r .holder) d 0, record { exists = b .exists; phase = e; person = refl }))
       (λ rest.
@@ -196,7 +196,7 @@ module _ (r : Record) (s : Sound r) where
           one = λ d p q x y. sym (x .person) ∙ y .person;
         };
         inv3-3 = λ d b. b .exists;
-        inv3-4 = λ d. (one-of-four r d, four r d s);
+        inv3-4 = λ d. (one-of-four r d, one-of-the-four r d s);
         inv3-5 = λ d x. apart d (x .0) (x .1);
         inv3-6 = λ d x. unlit d (in-mAckn r d (x .0)) (x .1);
       }

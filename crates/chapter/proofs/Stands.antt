@@ -33,9 +33,9 @@ use Rattle.machines.specs.M4.{Event, CARD, pass, ACCEPT, PASS, off-grn, REFUSE,
 use Rattle.chapter.specs.Reading.{constantsOf, isIn, DoorIn, CardAt, stateOf, stateOf3, StandsFor, Enabled, Idle, FirstFailing}
 use Rattle.chapter.specs.Reading.{card, grant, denial, green-order, walk, expiry, passage, lapse, red-order, dimming, darkness, acknowledgement}
 use Rattle.chapter.specs.Panel.{doorAt, Live}
-use Rattle.chapter.proofs.Invariants.{in-BLR, in-grn, grants-of, blocked, four}
+use Rattle.chapter.proofs.Invariants.{in-BLR, in-grn, grants-of, blocked, one-of-the-four}
 use Rattle.chapter.proofs.Turn.{each}
-use Rattle.chapter.proofs.Steps.{does, enabled}
+use Rattle.chapter.proofs.Steps.{event-done, enabled}
 
 -- ---- which event a step stands for
 
@@ -81,7 +81,7 @@ module _ (r : Record) (sh : Shaped r) (s : Sound r) (d : ℕ) (h : d < r .doors)
   moves-on : (e : Event) → doorAt e ≡ d → m4.Guard (constantsOf r) (stateOf r) e → (k : Kind) → allows k (getD (r .phase) d 0) ≡ true
       → (doorOf r d ≡ becomes (doorOf r d) (doing r k d 0) → ⊥) → Live r d
   moves-on e here guard k may other =
-      let acts = does r sh s d 0 k h (λ _. s .tables .in-range .people-from) may in
+      let acts = event-done r sh s d 0 k h (λ _. s .tables .in-range .people-from) may in
       record {
         happens = e;
         here = here;
@@ -130,7 +130,7 @@ module _ (r : Record) (sh : Shaped r) (s : Sound r) (d : ℕ) (h : d < r .doors)
   live =
       ⊎-elim
       (λ is. phase-moves (CARD 0 d) refl (s .tables .in-range .people-from, h, λ b. in-BLR r d b is) Card free is refl (λ e. omega arith))
-      (λ is-not. go (four r d s (blocked r d h is-not)))
+      (λ is-not. go (one-of-the-four r d s (blocked r d h is-not)))
       (same-or-not (getD (r .phase) d 0) free)
     where
       accepted : DoorIn r mAccept d → (getD (r .phase) d 0 ≡ granted) ⊎ (getD (r .phase) d 0 ≡ green) → Live r d
@@ -146,7 +146,7 @@ module _ (r : Record) (sh : Shaped r) (s : Sound r) (d : ℕ) (h : d < r .doors)
       decides at (inr i) = absurd (omega (arith, ap numberOfKind (i .tick)))
 
       go : (dom (CardAt r) ∪ stateOf3 r .set m3.grn ∪ stateOf3 r .set m3.red ∪ DoorIn r mAckn) d → Live r d
-      go (inl x) = decides (x .1 .phase) (enabled r sh s d 0 Decide (does r sh s d 0 Decide h (λ e. absurd (false≢true e)) (eq-eqb _ _ (x .1 .phase))))
+      go (inl x) = decides (x .1 .phase) (enabled r sh s d 0 Decide (event-done r sh s d 0 Decide h (λ e. absurd (false≢true e)) (eq-eqb _ _ (x .1 .phase))))
       go (inr (inl (inl x))) = accepted x (one-of _ _ _ (x .phase))
       go (inr (inl (inr (inl x)))) =
           let g = grants-of r d (in-grn r d (inr (inl x))) in

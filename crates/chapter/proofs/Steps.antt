@@ -68,8 +68,8 @@ no-way e = absurd (false≢true e)
 
 module _ (r : Record) (sh : Shaped r) (s : Sound r) (d p : ℕ) where
   -- a step that may be done is done
-  pub does : (k : Kind) → d < r .doors → (namesPerson k ≡ true → p < r .people) → allows k (getD (r .phase) d 0) ≡ true → stepOf r k d p .answer ≡ Done
-  does k h person may =
+  pub event-done : (k : Kind) → d < r .doors → (namesPerson k ≡ true → p < r .people) → allows k (getD (r .phase) d 0) ≡ true → stepOf r k d p .answer ≡ Done
+  event-done k h person may =
       rw (allowed-does r k d p (record { tested = sound-tells r sh .back s; a-door = h; a-person = person; allowed = may })) (act-done r d (doing r k d p))
 
   turned : (k : Kind) → stepOf r k d p .answer ≡ Done → (c : Door) → becomes (doorOf r d) (doing r k d p) ≡ c → Turned r (stepOf r k d p .next) d c
@@ -99,7 +99,7 @@ module _ (r : Record) (sh : Shaped r) (s : Sound r) (d p : ℕ) where
   unfolding Follows effect isIn allows grants andAlso orElse
   by-card person h slot =
       let at : getD (r .phase) d 0 ≡ free = unblocked (eqb (getD (r .phase) d 0) free) refl slot in
-      let done = does Card h (λ _. person) (eq-eqb _ _ at) in (
+      let done = event-done Card h (λ _. person) (eq-eqb _ _ at) in (
         done,
         reads-as r _ d (door read p 0) (turned Card done _ refl) h _ (still Card refl)
             (comes BLR (was-sets r d free h at)) (each _ refl refl refl refl refl refl refl refl refl)
@@ -128,7 +128,7 @@ module _ (r : Record) (sh : Shaped r) (s : Sound r) (d p : ℕ) where
   unfolding Follows effect isIn allows grants andAlso orElse
   by-grant g a =
       let at = g .phase in
-      let done = does Decide (g .exists) no-way (eq-eqb _ _ at) in
+      let done = event-done Decide (g .exists) no-way (eq-eqb _ _ at) in
       let none = admits r d (getD (r .holder) d 0) (admitted-by _ a) in (
         done,
         reads-as r _ d (door granted (getD (r .holder) d 0) 0) (turned Decide done _ (rw none)) (g .exists) _ (still Decide refl)
@@ -142,7 +142,7 @@ module _ (r : Record) (sh : Shaped r) (s : Sound r) (d p : ℕ) where
   unfolding Follows effect isIn allows grants keeps andAlso orElse
   by-denial g a =
       let at = g .phase in
-      let done = does Decide (g .exists) no-way (eq-eqb _ _ at) in
+      let done = event-done Decide (g .exists) no-way (eq-eqb _ _ at) in
       let person = s .doors d (g .exists) .held (rw at) in
       let some : eqb (reasonFor r d (getD (r .holder) d 0)) 0 ≡ false =
       ne-eqb _ _ (λ e. a (acceptable _ person (g .exists) (admitted r d (getD (r .holder) d 0) e))) in (
@@ -157,7 +157,7 @@ module _ (r : Record) (sh : Shaped r) (s : Sound r) (d p : ℕ) where
   unfolding Follows effect isIn allows grants andAlso orElse
   by-green g =
       let h = g .exists in
-      let done = does Green h no-way (g .phase) in
+      let done = event-done Green h no-way (g .phase) in
       let c = door green (getD (r .holder) d 0) greenSpan in (
         done,
         ⊎-elim
@@ -174,7 +174,7 @@ module _ (r : Record) (sh : Shaped r) (s : Sound r) (d p : ℕ) where
   unfolding Follows effect isIn allows grants andAlso orElse
   by-red g =
       let h = g .exists in
-      let done = does Red h no-way (g .phase) in
+      let done = event-done Red h no-way (g .phase) in
       let c = door red (getD (r .holder) d 0) redSpan in (
         done,
         ⊎-elim
@@ -192,7 +192,7 @@ module _ (r : Record) (sh : Shaped r) (s : Sound r) (d p : ℕ) where
   by-walk g =
       let h = g .exists in
       let at = eqb-true (getD (r .phase) d 0) green (g .phase) in
-      let done = does Walk h no-way (g .phase) in (
+      let done = event-done Walk h no-way (g .phase) in (
         done,
         sets-only Walk green (door walked (getD (r .holder) d 0) 0) _ done refl h refl
             (goes mAccept (comes mPass (goes GRN (was-sets r d green h at)))) (each _ refl refl refl refl refl refl refl refl refl) at refl (λ _. refl) refl refl,
@@ -203,7 +203,7 @@ module _ (r : Record) (sh : Shaped r) (s : Sound r) (d p : ℕ) where
   by-dark g =
       let h = g .exists in
       let at = eqb-true (getD (r .phase) d 0) dimmed (g .phase) in
-      let done = does Dark h no-way (g .phase) in (
+      let done = event-done Dark h no-way (g .phase) in (
         done,
         sets-only Dark dimmed (door closed (getD (r .holder) d 0) 0) _ done refl h refl
             (goes mOff-red (comes mAckn (was-sets r d dimmed h at))) (each _ refl refl refl refl refl refl refl refl refl) at refl no-way refl refl,
@@ -214,7 +214,7 @@ module _ (r : Record) (sh : Shaped r) (s : Sound r) (d p : ℕ) where
   by-ack g =
       let h = g .exists in
       let at = eqb-true (getD (r .phase) d 0) closed (g .phase) in
-      let done = does Ack h no-way (g .phase) in (
+      let done = event-done Ack h no-way (g .phase) in (
         done,
         sets-only Ack closed freeDoor _ done refl h refl
             (goes mAckn (goes BLR (was-sets r d closed h at))) (each _ refl refl refl refl refl refl refl refl refl) at refl no-way refl refl,
@@ -225,7 +225,7 @@ module _ (r : Record) (sh : Shaped r) (s : Sound r) (d p : ℕ) where
   by-lapse g =
       let h = g .exists in
       let at = eqb-true (getD (r .phase) d 0) expired (g .phase) in
-      let done = does Lapsed h no-way (g .phase) in (
+      let done = event-done Lapsed h no-way (g .phase) in (
         done,
         reads-as r _ d (door closed 0 0) (turned Lapsed done _ refl) h _ (still Lapsed refl)
             (goes mOff-grn (comes mAckn (was-sets r d expired h at))) (each _ refl refl refl refl refl refl refl refl refl)
@@ -238,7 +238,7 @@ module _ (r : Record) (sh : Shaped r) (s : Sound r) (d p : ℕ) where
   by-passage g =
       let h = g .exists in
       let at = eqb-true (getD (r .phase) d 0) walked (g .phase) in
-      let done = does Passed h no-way (g .phase) in (
+      let done = event-done Passed h no-way (g .phase) in (
         done,
         reads-as r _ d (door closed 0 0) (turned Passed done _ refl) h _ (moved done)
             (goes mPass (comes mAckn (was-sets r d walked h at))) (each _ refl refl refl refl refl refl refl refl refl)
@@ -257,7 +257,7 @@ module _ (r : Record) (sh : Shaped r) (s : Sound r) (d p : ℕ) where
   unfolding Follows effect isIn allows grants andAlso orElse
   by-expiry at last g =
       let h = g .exists in
-      let done = does Tick h no-way refl in (
+      let done = event-done Tick h no-way refl in (
         done,
         sets-only Tick green (door expired (getD (r .holder) d 0) 0) _ done refl h (simp (at, le-ltb 1 _ last))
             (goes mAccept (comes mOff-grn (goes GRN (was-sets r d green h at)))) (each _ refl refl refl refl refl refl refl refl refl) at refl (λ _. refl) refl refl,
@@ -267,7 +267,7 @@ module _ (r : Record) (sh : Shaped r) (s : Sound r) (d p : ℕ) where
   unfolding Follows effect isIn allows grants andAlso orElse
   by-dimming at last g =
       let h = g .exists in
-      let done = does Tick h no-way refl in (
+      let done = event-done Tick h no-way refl in (
         done,
         sets-only Tick red (door dimmed (getD (r .holder) d 0) 0) _ done refl h (simp (at, le-ltb 1 _ last))
             (goes mRefuse (comes mOff-red (goes RED (was-sets r d red h at)))) (each _ refl refl refl refl refl refl refl refl refl) at refl no-way refl refl,
@@ -288,7 +288,7 @@ module _ (r : Record) (sh : Shaped r) (s : Sound r) (d p : ℕ) where
   unfolding allows
   by-tick h on-green on-red =
       let ph = getD (r .phase) d 0 in
-      let done = does Tick h no-way refl in
+      let done = event-done Tick h no-way refl in
       let to = tick-on ph (getD (r .holder) d 0) (getD (r .count) d 0) (reasonFor r d (getD (r .holder) d 0)) on-green on-red in
       reads-as r _ d (door ph (getD (r .holder) d 0) (to .0)) (turned Tick done _ (to .1)) h _ (still Tick refl)
       (was-sets r d ph h refl) (λ X. refl) (was-dap r d ph h refl) refl (λ _. refl) (was-card r d ph h refl) refl (λ _. refl)

@@ -18,10 +18,10 @@ pub record InRow (first : ℕ) (numbers before : List ℕ) (at : ℕ) (out : Lis
 
 module _ {first : ℕ} {numbers before : List ℕ} {at : ℕ} {out : List ℕ} {next n i : ℕ} (r : InRow first numbers before at out next n i) where
   -- a number and a comma are written
-  pub row-more : {between after : List ℕ} {seam end : ℕ} → i < length numbers → Wrote out next (decimal n) between seam
+  pub numbers-more : {between after : List ℕ} {seam end : ℕ} → i < length numbers → Wrote out next (decimal n) between seam
       → Wrote between seam (comma ∷ []) after end → InRow first numbers before at after end (getD numbers i 0) (i + 1)
   unfolding rowOfNumbers
-  row-more h w v =
+  numbers-more h w v =
       let e : drop i numbers ≡ getD numbers i 0 ∷ drop (i + 1) numbers = rw (add-one i) (drop-cons numbers i 0 h) in
       record { low = omega arith; pending = more (more (r .pending) (ap (rowOfNumbers n) e) w) refl v }
 

@@ -69,17 +69,17 @@ module _ {M : Type 1} (𝓤 : URA M) (H : Heap 𝓤) (A : Atoms 𝓤) (W : Given
       nothing ! $ move ! (1 ∷ 0 ∷ []) $ fjoin ! $ move ! (1 ∷ 0 ∷ []) $ fjoin ! $ done !
 
   -- what a function that takes a sheet and a place, and asks nothing of them, has before it is called
-  abbrev pub Asked : Share → SProp 𝓤
-  Asked q = sep 𝓤 (⋆ 𝓤 H A ((‵ (flft κ q) ⊛ ‵ ftrue) ∷ ‵ (OwnFields κ d) ∷ [])) (emp 𝓤)
+  abbrev pub AskedReader : Share → SProp 𝓤
+  AskedReader q = sep 𝓤 (⋆ 𝓤 H A ((‵ (flft κ q) ⊛ ‵ ftrue) ∷ ‵ (OwnFields κ d) ∷ [])) (emp 𝓤)
 
-  pub asked : (q : Share) → ent 𝓤 (⋆ 𝓤 H A ((‵ (flft κ q) ⊛ ‵ ftrue) ∷ ‵ (OwnFields κ d) ∷ [])) (Asked q)
-  asked q = qed W ((‵ (flft κ q) ⊛ ‵ ftrue) ∷ ‵ (OwnFields κ d) ∷ []) ∵ join ! $ frame ! $ done !
+  pub askedReader : (q : Share) → ent 𝓤 (⋆ 𝓤 H A ((‵ (flft κ q) ⊛ ‵ ftrue) ∷ ‵ (OwnFields κ d) ∷ [])) (AskedReader q)
+  askedReader q = qed W ((‵ (flft κ q) ⊛ ‵ ftrue) ∷ ‵ (OwnFields κ d) ∷ []) ∵ join ! $ frame ! $ done !
 
   -- a function that was passed a reader alone has it, and what the reader owns is kept
-  pub apart : (q : Share) → ent 𝓤 (⋆ 𝓤 H A ((‵ (flft κ q) ⊛ ‵ ftrue) ∷ ‵ (owns (ReaderRow (κ, tt) ∷ []) (d, tt) (T′.lowered d ∷ [], tt)) ∷ [])) (sep 𝓤 (Asked q) (sem 𝓤 H A (Own κ d)))
+  pub apart : (q : Share) → ent 𝓤 (⋆ 𝓤 H A ((‵ (flft κ q) ⊛ ‵ ftrue) ∷ ‵ (owns (ReaderRow (κ, tt) ∷ []) (d, tt) (T′.lowered d ∷ [], tt)) ∷ [])) (sep 𝓤 (AskedReader q) (sem 𝓤 H A (Own κ d)))
   apart q =
       qed W ((‵ (flft κ q) ⊛ ‵ ftrue) ∷ ‵ (owns (ReaderRow (κ, tt) ∷ []) (d, tt) (T′.lowered d ∷ [], tt)) ∷ []) ∵
       move ! (1 ∷ []) $ fsplit ! $ move ! (1 ∷ []) $ drop ! $ use1 W (‵ (Own κ d) ⊛ ‵ (Own κ d)) twice $ split ! $
       use1 W (given (T′.lowered d ∷ [] ≡ T′.lowered d ∷ []) (‵ (all-own (Type-of (κ, tt) .parts) (laws-of (κ, tt)) (d .sheet, (d .at, tt))))) (own-open 𝓤 H A W (Type-of (κ, tt)) (laws-of (κ, tt)) (d .sheet, (d .at, tt)) (T′.lowered d)) $ learn ! (λ _.
       -- [what the fields own; what the reader owns; the token]
-      move ! (2 ∷ 0 ∷ []) $ use2 W (raw (Asked q)) (asked q) $ frame ! $ done !)
+      move ! (2 ∷ 0 ∷ []) $ use2 W (raw (AskedReader q)) (askedReader q) $ frame ! $ done !)

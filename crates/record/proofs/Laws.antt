@@ -279,10 +279,10 @@ door-after r k d p sh s e =
     rw (w .1) (act-door r sh d (omega arith) (doing r k d p))
 
 -- the steps that end a person's stay at a door: `passed`, `lapsed`, and a `decide` that tells a reason
-pub data Ends : Kind → ℕ → Type 0 where
-  passing : {reason : ℕ} → Ends Passed reason
-  lapsing : {reason : ℕ} → Ends Lapsed reason
-  denial : {reason : ℕ} → (reason ≡ 0 → ⊥) → Ends Decide reason
+pub data EndsStay : Kind → ℕ → Type 0 where
+  passing : {reason : ℕ} → EndsStay Passed reason
+  lapsing : {reason : ℕ} → EndsStay Lapsed reason
+  denial : {reason : ℕ} → (reason ≡ 0 → ⊥) → EndsStay Decide reason
 
 -- a door keeps nobody, or keeps the person whom it kept
 pub record Left (c : Door) : Type 0 where
@@ -293,7 +293,7 @@ pub record HeldOn (before after : Door) : Type 0 where
   pub kept : keeps (after .phase) ≡ true
   pub same : after .holder ≡ before .holder
 
-gone : (k : Kind) (p why n : ℕ) (c : Door) → reasonIn (effect k p why c) ≡ n → Ends k n → Left (becomes c (effect k p why c))
+gone : (k : Kind) (p why n : ℕ) (c : Door) → reasonIn (effect k p why c) ≡ n → EndsStay k n → Left (becomes c (effect k p why c))
 unfolding effect keeps andAlso
 gone k p why n c e passing = record { nobody = refl; dropped = refl }
 gone k p why n c e lapsing = record { nobody = refl; dropped = refl }
@@ -301,7 +301,7 @@ gone k p why n c e (denial some) =
     either (λ x. reasonIn x ≡ n → Left (becomes c x)) (eqb why 0) (λ _ z. absurd (some (sym z))) (λ _ _. record { nobody = refl; dropped = refl }) e
 
 -- the held person leaves the door at `passed`, `lapsed` and a denial ..
-pub leaves : (r : Record) (k : Kind) (d p n : ℕ) → Shaped r → Sound r → stepOf r k d p .answer ≡ Done → stepOf r k d p .reason ≡ n → Ends k n
+pub leaves : (r : Record) (k : Kind) (d p n : ℕ) → Shaped r → Sound r → stepOf r k d p .answer ≡ Done → stepOf r k d p .reason ≡ n → EndsStay k n
     → Left (doorOf (stepOf r k d p .next) d)
 leaves r k d p n sh s e why ends =
     let told : stepOf r k d p .reason ≡ reasonIn (doing r k d p) = rw (done-did r k d p e .1) (act-tells r d (doing r k d p)) in
@@ -311,12 +311,12 @@ leaves r k d p n sh s e why ends =
 out : {A : Type 0} (ph a : ℕ) → keeps a ≡ false → eqb ph a ≡ true → keeps ph ≡ true → A
 out ph a no-one e k = clash k (rw (eqb-true ph a e) no-one)
 
-here : (k : Kind) (p why : ℕ) (c : Door) → allows k (c .phase) ≡ true → keeps (c .phase) ≡ true → (Ends k (reasonIn (effect k p why c)) → ⊥)
+here : (k : Kind) (p why : ℕ) (c : Door) → allows k (c .phase) ≡ true → keeps (c .phase) ≡ true → (EndsStay k (reasonIn (effect k p why c)) → ⊥)
     → HeldOn c (becomes c (effect k p why c))
 unfolding effect allows keeps andAlso
 here Card p why c e k on = out (c .phase) free refl e k
 here Decide p why c e k on =
-    either (λ x. (Ends Decide (reasonIn x) → ⊥) → HeldOn c (becomes c x)) (eqb why 0) (λ _ _. record { kept = refl; same = refl })
+    either (λ x. (EndsStay Decide (reasonIn x) → ⊥) → HeldOn c (becomes c x)) (eqb why 0) (λ _ _. record { kept = refl; same = refl })
     (λ z no-end. absurd (no-end (denial (eqb-false why 0 z)))) on
 here Green p why c e k on = record { kept = refl; same = refl }
 here Red p why c e k on = ⊎-elim (λ q. clash k (rw q refl)) (λ q. clash k (rw q refl)) (one-of (c .phase) denied red e)
@@ -333,7 +333,7 @@ here Unknown p why c e k on = absurd (false≢true e)
 
 -- .. and at no other step
 pub holds-on : (r : Record) (k : Kind) (d p : ℕ) → Shaped r → Sound r → stepOf r k d p .answer ≡ Done → keeps (getD (r .phase) d 0) ≡ true
-    → (Ends k (stepOf r k d p .reason) → ⊥) → HeldOn (doorOf r d) (doorOf (stepOf r k d p .next) d)
+    → (EndsStay k (stepOf r k d p .reason) → ⊥) → HeldOn (doorOf r d) (doorOf (stepOf r k d p .next) d)
 holds-on r k d p sh s e kept on =
     let w = done-did r k d p e in
     let told : stepOf r k d p .reason ≡ reasonIn (doing r k d p) = rw (w .1) (act-tells r d (doing r k d p)) in

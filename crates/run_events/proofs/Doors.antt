@@ -95,20 +95,20 @@ module _ (n d p why : ℕ) (c : Door) (s : Spell) (agree : standing s ≡ standi
   granted-to : grants (c .phase) ≡ true → Granted s (c .holder)
   granted-to g = is-granted s (c .holder) (agree ∙ at-grant c g)
 
-  pub follows : (k : Kind) → allows k (c .phase) ≡ true → Follows n d p why k c (effect k p why c) s
+  pub door-follows : (k : Kind) → allows k (c .phase) ≡ true → Follows n d p why k c (effect k p why c) s
   unfolding allows effect meaningBy whatBy eventBy spellBy standingAt grants andAlso
-  follows Card ok = record { seen = refl; after = refl }
-  follows Decide ok = go (eqb why 0) refl (card-person (s .stage) (s .person) (c .holder) (agree ∙ at-read c (eqb-true (c .phase) read ok)))
+  door-follows Card ok = record { seen = refl; after = refl }
+  door-follows Decide ok = go (eqb why 0) refl (card-person (s .stage) (s .person) (c .holder) (agree ∙ at-read c (eqb-true (c .phase) read ok)))
     where
       go : (t : Bool) → eqb why 0 ≡ t → s .person ≡ c .holder → Follows n d p why Decide c (effect Decide p why c) s
       go true e same = record { seen = rw (e, same); after = rw (e, same) }
       go false e same = record { seen = rw (e, same); after = rw e }
-  follows Green ok = goes-on refl refl (stands p why c a-green ok)
-  follows Red ok = goes-on refl refl (stands p why c a-red ok)
-  follows Walk ok = goes-on refl refl (stands p why c a-walk ok)
-  follows Tick ok = goes-on refl refl (stands p why c a-tick ok)
-  follows Passed ok = let held = granted-to (rw (eqb-true (c .phase) walked ok)) in record { seen = rw (held .person); after = refl }
-  follows Lapsed ok = let held = granted-to (rw (eqb-true (c .phase) expired ok)) in record { seen = rw (held .person); after = refl }
-  follows Dark ok = goes-on refl refl (stands p why c a-dark ok)
-  follows Ack ok = record { seen = refl; after = refl }
-  follows Unknown ok = absurd (false≢true ok)
+  door-follows Green ok = goes-on refl refl (stands p why c a-green ok)
+  door-follows Red ok = goes-on refl refl (stands p why c a-red ok)
+  door-follows Walk ok = goes-on refl refl (stands p why c a-walk ok)
+  door-follows Tick ok = goes-on refl refl (stands p why c a-tick ok)
+  door-follows Passed ok = let held = granted-to (rw (eqb-true (c .phase) walked ok)) in record { seen = rw (held .person); after = refl }
+  door-follows Lapsed ok = let held = granted-to (rw (eqb-true (c .phase) expired ok)) in record { seen = rw (held .person); after = refl }
+  door-follows Dark ok = goes-on refl refl (stands p why c a-dark ok)
+  door-follows Ack ok = record { seen = refl; after = refl }
+  door-follows Unknown ok = absurd (false≢true ok)

@@ -25,7 +25,7 @@ use Rattle.record.proofs.Laws.{Allowed, step-cases, allowed-does, others-stay, 
 use Rattle.run_events.specs.Lines.{Line}
 use Rattle.run_events.specs.Events.{Nothing, meaningBy, meaningOf, Spell, spellBy, spellsAfter, eventBy}
 use Rattle.run_events.specs.Told.{standing, standingAt, Agree, seenOf}
-use Rattle.run_events.proofs.Doors.{doneReply, Follows, follows}
+use Rattle.run_events.proofs.Doors.{doneReply, Follows, door-follows}
 
 -- the line of a step and what it handed back
 abbrev pub lineOf : StepRow → Step → Line
@@ -92,7 +92,7 @@ module _ (spells : ℕ → Spell) (n : ℕ) (r : Record) (sh : Shaped r) (s : So
     acted = allowed-does r (row .kind) (row .at) (row .person) w
 
     follow : Follows n (row .at) (row .person) (reasonFor r (row .at) (getD (r .holder) (row .at) 0)) (row .kind) (doorOf r (row .at)) (doing r (row .kind) (row .at) (row .person)) (spells (row .at))
-    follow = follows n (row .at) (row .person) _ (doorOf r (row .at)) (spells (row .at)) (agree .each (row .at)) (row .kind) (w .allowed)
+    follow = door-follows n (row .at) (row .person) _ (doorOf r (row .at)) (spells (row .at)) (agree .each (row .at)) (row .kind) (w .allowed)
 
     here : standing (spellsAfter spells n (lineOf row z) (row .at)) ≡ standingAt (doorOf (z .next) (row .at))
     here = rw (after-here spells n (lineOf row z) (row .at) refl, door-here r (row .kind) (row .at) (row .person) sh s w, done-means r row (doing r (row .kind) (row .at) (row .person))) (follow .after)

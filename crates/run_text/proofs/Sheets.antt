@@ -53,8 +53,8 @@ module _ (site steps : List ℕ) {read : SiteRead} {n : ℕ} (is : read ≡ site
     accepted : AcceptedRecord limit site
     accepted = accepted-holds limit site (zero-accepted (siteOf site .verdict) (number-is ∙ zero))
 
-    pub fresh-sound : soundB (read .«record») ≡ true
-    fresh-sound = rw is (sound-tells (siteOf site .«record») (accepted .shaped) .back (accepted .sound))
+    pub accepted-fresh-sound : soundB (read .«record») ≡ true
+    accepted-fresh-sound = rw is (sound-tells (siteOf site .«record») (accepted .shaped) .back (accepted .sound))
 
     fresh-people : read .«record» .people ≤ mostPeople
     fresh-people = rw is (accepted-people accepted)

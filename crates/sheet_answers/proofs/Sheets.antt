@@ -29,7 +29,7 @@ use Rattle.grammar.proofs.Reading.{cut-behind, cut-there}
 use Rattle.cell_meaning.proofs.Saying.{same-self, same-true, proper-read, read-proper, none-is-some as no-number}
 use Rattle.grammar.proofs.Theorems.{found-is-row, found-is-field, field-before-comma, field-before-crlf, field-before-end}
 use Rattle.tables.specs.Below.{Tells}
-use Rattle.tables.proofs.Laws.{none-is-some, tell-eq, tell-as}
+use Rattle.tables.proofs.Laws.{clash, tell-eq, tell-as}
 use Rattle.sheet_answers.specs.Answers.{Within, Lies, FieldTold, RowTold, CountTold, HasWord, HasWords, SheetAnswers}
 
 -- a cell that holds a field lies in the sheet
@@ -115,7 +115,7 @@ unfolding isWord
 word-tells s cell word = go (cell .doubled) refl
   where
     go : (b : Bool) → cell .doubled ≡ b → Tells (cond b false (sameBytes (contentAt s cell) word)) (HasWord s cell word)
-    go true q = record { yes = λ e. absurd (false≢true e); back = λ w. none-is-some q (w .0) }
+    go true q = record { yes = λ e. absurd (false≢true e); back = λ w. clash q (w .0) }
     go false q =
         record {
           yes = λ e. (q, same-true (contentAt s cell) word e);

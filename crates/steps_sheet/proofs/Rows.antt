@@ -79,9 +79,9 @@ module _ (s : List ℕ) {cells : Cells} (r : Row) (h : RowHolds s cells r) where
   unfolding personAt personIn holdsQuote
   person-same kind n = rw (word-same s (fieldOf 2 r) [] (h .third (omega arith)) refl, number-same s (fieldOf 2 r) (h .third (omega arith)))
 
-  pub line-same : stepsLineAt s cells ≡ stepFrom r
+  pub step-line-same : stepsLineAt s cells ≡ stepFrom r
   unfolding stepsLineAt stepFrom
-  line-same = rw (← h .count) (go (eqb (cells .count) 3) refl)
+  step-line-same = rw (← h .count) (go (eqb (cells .count) 3) refl)
     where
       go : (q : Bool) → eqb (cells .count) 3 ≡ q
           → cond (eqb (cells .count) 3) (stepsLineOf (kindAt s (cells .first)) (numberAt s (cells .second)) (personAt s (kindAt s (cells .first)) (cells .third))) Bad

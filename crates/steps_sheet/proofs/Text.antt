@@ -29,7 +29,7 @@ use Rattle.steps_sheet.specs.declared.Heading.the-variants.{Rows}
 use Rattle.steps_sheet.specs.Words.{stepHead, doorHead, personHead}
 use Rattle.steps_sheet.specs.Says.{Steps, SaysStep, TextSaysSteps, nothing, a-step, bad-row, no-row-there, StepsHeaderRow, HeadingSays, too-long, wrong, rows-at}
 use Rattle.steps_sheet.specs.Steps.{stepsLineAt, stepsHeaderAt, headed, headingAt, before, stepsIn, stepsFrom}
-use Rattle.steps_sheet.proofs.Rows.{stepFrom, line-same, says-line, line-says, line-bad}
+use Rattle.steps_sheet.proofs.Rows.{stepFrom, step-line-same, says-line, line-says, line-bad}
 
 -- ---- the steps
 
@@ -49,7 +49,7 @@ module _ (s : List ℕ) (at : ℕ) where
   turn (Cut cells next) e more =
       let c = cut-is-row s at e in
       let w = cut-there s at e in
-      row-turn (stepsLineAt s cells) (c .there) (sym (line-same s (c .row) (c .holds))) (stepsFrom s next) (rw (c .behind) at (more next (w .0) (w .1)))
+      row-turn (stepsLineAt s cells) (c .there) (sym (step-line-same s (c .row) (c .holds))) (stepsFrom s next) (rw (c .behind) at (more next (w .0) (w .1)))
   turn NoRow e more = rw (no-row-end s at e) nothing
   turn (Broken byte) e more = no-row-there (broken-some s at e) (broken-none s at e)
 
@@ -69,28 +69,28 @@ step-unique {r} {r′} {x} {y} e a b =
     let p : x .person ≡ y .person = cc in
     λ i. record { kind = k i; at = d i; person = p i }
 
-pub steps-unique : {text text′ : List ℕ} {xs ys : List StepRow} {p q : Bool} → TextSaysSteps text xs p → TextSaysSteps text′ ys q → text ≡ text′
+pub steps-one-reading : {text text′ : List ℕ} {xs ys : List StepRow} {p q : Bool} → TextSaysSteps text xs p → TextSaysSteps text′ ys q → text ≡ text′
     → (xs ≡ ys) × (p ≡ q)
-steps-unique nothing nothing e = (refl, refl)
-steps-unique nothing (a-step a x t) e = absurd (no-row-at a e)
-steps-unique nothing (bad-row a x) e = absurd (no-row-at a e)
-steps-unique nothing (no-row-there n m) e = absurd (n (sym e))
-steps-unique (a-step a x t) nothing e = absurd (no-row-at a (sym e))
-steps-unique (a-step a x t) (a-step b y u) e =
+steps-one-reading nothing nothing e = (refl, refl)
+steps-one-reading nothing (a-step a x t) e = absurd (no-row-at a e)
+steps-one-reading nothing (bad-row a x) e = absurd (no-row-at a e)
+steps-one-reading nothing (no-row-there n m) e = absurd (n (sym e))
+steps-one-reading (a-step a x t) nothing e = absurd (no-row-at a (sym e))
+steps-one-reading (a-step a x t) (a-step b y u) e =
     let k = row-unique a b e in
-    let rest = steps-unique t u (k .behind) in
+    let rest = steps-one-reading t u (k .behind) in
     let first = step-unique (k .first) x y in
     ((λ i. first i ∷ rest .0 i), rest .1)
-steps-unique (a-step {step = step} a x t) (bad-row b y) e = let k = row-unique a b e in absurd (y step (rw (k .first) at x))
-steps-unique (a-step {r = r} {rest = rest} a x t) (no-row-there n m) e = absurd (m r rest (rw e at a))
-steps-unique (bad-row a x) nothing e = absurd (no-row-at a (sym e))
-steps-unique (bad-row a x) (a-step {step = step} b y u) e = let k = row-unique a b e in absurd (x step (rw (← k .first) at y))
-steps-unique (bad-row a x) (bad-row b y) e = (refl, refl)
-steps-unique (bad-row {r = r} {rest = rest} a x) (no-row-there n m) e = absurd (m r rest (rw e at a))
-steps-unique (no-row-there n m) nothing e = absurd (n e)
-steps-unique (no-row-there n m) (a-step {r = r} {rest = rest} b y u) e = absurd (m r rest (rw (sym e) at b))
-steps-unique (no-row-there n m) (bad-row {r = r} {rest = rest} b y) e = absurd (m r rest (rw (sym e) at b))
-steps-unique (no-row-there n m) (no-row-there n′ m′) e = (refl, refl)
+steps-one-reading (a-step {step = step} a x t) (bad-row b y) e = let k = row-unique a b e in absurd (y step (rw (k .first) at x))
+steps-one-reading (a-step {r = r} {rest = rest} a x t) (no-row-there n m) e = absurd (m r rest (rw e at a))
+steps-one-reading (bad-row a x) nothing e = absurd (no-row-at a (sym e))
+steps-one-reading (bad-row a x) (a-step {step = step} b y u) e = let k = row-unique a b e in absurd (x step (rw (← k .first) at y))
+steps-one-reading (bad-row a x) (bad-row b y) e = (refl, refl)
+steps-one-reading (bad-row {r = r} {rest = rest} a x) (no-row-there n m) e = absurd (m r rest (rw e at a))
+steps-one-reading (no-row-there n m) nothing e = absurd (n e)
+steps-one-reading (no-row-there n m) (a-step {r = r} {rest = rest} b y u) e = absurd (m r rest (rw (sym e) at b))
+steps-one-reading (no-row-there n m) (bad-row {r = r} {rest = rest} b y) e = absurd (m r rest (rw (sym e) at b))
+steps-one-reading (no-row-there n m) (no-row-there n′ m′) e = (refl, refl)
 
 -- ---- the heading
 

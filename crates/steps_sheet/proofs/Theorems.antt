@@ -19,28 +19,28 @@ use Rattle.steps_sheet.specs.declared.Heading.the-variants.{Rows}
 use Rattle.steps_sheet.specs.Says.{Steps, SaysStep, BadForm, TextSaysSteps, HeadingSays, rows-at, SheetSays}
 use Rattle.steps_sheet.specs.Steps.{stepsLineAt, headingAt, stepsFrom, SheetReads}
 use Rattle.steps_sheet.specs.Lent.{mostIn, decodedOf}
-use Rattle.steps_sheet.proofs.Rows.{line-same, says-line, line-says, bad-line, line-bad}
+use Rattle.steps_sheet.proofs.Rows.{step-line-same, says-line, line-says, bad-line, line-bad}
 use Rattle.steps_sheet.proofs.Text as text
 use Rattle.steps_sheet.proofs.Few as few
 
 module _ (s : List ℕ) {cells : Cells} (r : Row) (h : RowHolds s cells r) where
   -- The cells of a row are read as a step exactly when the row is that step,
   pub step-exactly : (step : StepRow) → (stepsLineAt s cells ≡ Step (step .kind) (step .at) (step .person)) ↔ SaysStep r step
-  step-exactly step = ((λ e. line-says r (sym (line-same s r h) ∙ e)), (λ x. line-same s r h ∙ says-line r x))
+  step-exactly step = ((λ e. line-says r (sym (step-line-same s r h) ∙ e)), (λ x. step-line-same s r h ∙ says-line r x))
 
   -- and as a row of bad form exactly when it is one.
   pub bad-exactly : (stepsLineAt s cells ≡ Bad) ↔ BadForm r
-  bad-exactly = ((λ e. line-bad r (sym (line-same s r h) ∙ e)), (λ x. line-same s r h ∙ bad-line r x))
+  bad-exactly = ((λ e. line-bad r (sym (step-line-same s r h) ∙ e)), (λ x. step-line-same s r h ∙ bad-line r x))
 
 -- A text says one list of steps.
 pub one-list-of-steps : {text : List ℕ} {xs ys : List StepRow} {p q : Bool} → TextSaysSteps text xs p → TextSaysSteps text ys q → (xs ≡ ys) × (p ≡ q)
-one-list-of-steps a b = text.steps-unique a b refl
+one-list-of-steps a b = text.steps-one-reading a b refl
 
 -- The steps that are read from a position on are exactly those that the text from there says; so every text says some.
 pub steps-exactly : (s : List ℕ) (from : ℕ) (steps : Steps) → (stepsFrom s from ≡ steps) ↔ TextSaysSteps (drop from s) (steps .rows) (steps .whole)
 steps-exactly s from steps = (
   (λ e. subst (λ (x : Steps). TextSaysSteps (drop from s) (x .rows) (x .whole)) e (text.steps-said s from)),
-  (λ t. let u = text.steps-unique (text.steps-said s from) t refl in λ i. record { rows = u .0 i; whole = u .1 i }),
+  (λ t. let u = text.steps-one-reading (text.steps-said s from) t refl in λ i. record { rows = u .0 i; whole = u .1 i }),
 )
 
 -- The heading is told as too long, wrong, or with the data rows behind it, exactly when it is so.

@@ -5,7 +5,7 @@ use native.Mathlib.Omega.{arith}
 use borrow.Author.Needs.{needs}
 use lib.ListN.{length}
 use Rattle.text.proofs.Writing.{begun}
-use Rattle.number_rows.proofs.Loop.{InRow, row-more, row-end}
+use Rattle.number_rows.proofs.Loop.{InRow, numbers-more, row-end}
 use Rattle.number_rows.proofs.put_row.Statement.{statement}
 use Rattle.number_rows.proofs.put_row.Tie as tie
 
@@ -37,7 +37,7 @@ loop-less : tie.Need-loop-less Inv-loop μ-loop
 loop-less c = search needs
 
 loop-again : tie.Need-loop-again Inv-loop μ-loop
-loop-again c = search (needs, row-more)
+loop-again c = search (needs, numbers-more)
 
 put-number-requires-2 : tie.Need-put-number-requires-2 Inv-loop μ-loop
 put-number-requires-2 c κs = search needs

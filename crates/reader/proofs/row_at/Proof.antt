@@ -40,7 +40,7 @@ use Rattle.grammar.specs.Cut.{cutRow}
 use Rattle.reader.specs.Reader.{readerAt}
 use Rattle.reader.specs.declared.Reader.{Reader}
 use Rattle.grammar.specs.declared.cut.RowCut.{RowCut}
-use Rattle.reader.proofs.Held.{ReaderRow, readerFields, OwnFields, fields-twice, Asked, asked}
+use Rattle.reader.proofs.Held.{ReaderRow, readerFields, OwnFields, fields-twice, AskedReader, askedReader}
 use Rattle.reader.proofs.Reader as T
 use Rattle.reader.proofs.Reader.Laws as T′
 use Rattle.grammar.proofs.cut.RowCut as S
@@ -91,11 +91,11 @@ module _ {M : Type 1} (𝓤 : URA M) (H : Heap 𝓤) (A : Atoms 𝓤) (W : Given
   abbrev to-at-byte : AtByte 𝓤 H A mem run .Ghost
   to-at-byte = (((κ, tt), (q, tt), tt, (d .sheet, (d .at, tt)), readerFields d), tt)
 
-  goes-in : ent 𝓤 Entry (sep 𝓤 (Asked 𝓤 H A W κ d q) (sem 𝓤 H A (OwnFields κ d)))
+  goes-in : ent 𝓤 Entry (sep 𝓤 (AskedReader 𝓤 H A W κ d q) (sem 𝓤 H A (OwnFields κ d)))
   goes-in =
       qed W ((‵ (flft κ q) ⊛ ‵ ftrue) ∷ ‵ (OwnFields κ d) ∷ []) ∵
       move ! (1 ∷ []) $ use1 W (‵ (OwnFields κ d) ⊛ ‵ (OwnFields κ d)) (fields-twice 𝓤 H A W κ d) $ split ! $
-      move ! (2 ∷ 0 ∷ []) $ use2 W (raw (Asked 𝓤 H A W κ d q)) (asked 𝓤 H A W κ d q) $ frame ! $ done !
+      move ! (2 ∷ 0 ∷ []) $ use2 W (raw (AskedReader 𝓤 H A W κ d q)) (askedReader 𝓤 H A W κ d q) $ frame ! $ done !
 
   at-byte-said : (r : Reader) → ent 𝓤 (ensured 𝓤 H A at-byte.ended (at-byte.clauses 𝓤 H A mem run) (κ, tt) (d .sheet, (d .at, tt)) tt r) (fact 𝓤 (r ≡ d))
   at-byte-said r = exE 𝓤 _ (λ ws. snd∗ 𝓤 (sem 𝓤 H A (lasts at-byte.ended (κ, tt) (d .sheet, (d .at, tt)) ws)) (fact 𝓤 (r ≡ d)))

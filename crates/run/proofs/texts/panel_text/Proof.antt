@@ -1,6 +1,6 @@
 -- `panel_text` meets its contract: the site's refusal, then what becomes of the steps sheet. Assumes nothing.
 use mathlib.Core.Path.{refl}
-use Rattle.run_text.proofs.Sheets.{panel-refused, fresh-sound, panel-is}
+use Rattle.run_text.proofs.Sheets.{panel-refused, accepted-fresh-sound, panel-is}
 use Rattle.text.proofs.Printing.{text-is}
 use borrow.Author.Needs.{needs}
 use Rattle.run.proofs.texts.panel_text.Statement.{statement}
@@ -22,7 +22,7 @@ returns : tie.Need-returns
 returns c = text-is _ _ (c .before .before .before .before .before .before .before .before .before .before .args .out .now) (panel-refused (c .before .before .before .before .before .before .before .before .before .before .args .site .now) (c .before .before .before .before .before .before .before .before .before .before .args .steps .now) (c .before .before .before .before .before .before .read-site .ensures) (c .before .before .before .before .before .number .ensures) (c .before .before .before .before .if1 .taken)) (c .before .before .print-alone .ensures)
 
 print-headed-requires : tie.Need-print-headed-requires
-print-headed-requires c κs = fresh-sound (c .before .before .before .before .before .before .before .before .args .site .now) (c .before .before .before .before .before .before .before .before .args .steps .now) (c .before .before .before .before .read-site .ensures) (c .before .before .before .number .ensures) (c .before .before .if1 .left)
+print-headed-requires c κs = accepted-fresh-sound (c .before .before .before .before .before .before .before .before .args .site .now) (c .before .before .before .before .before .before .before .before .args .steps .now) (c .before .before .before .before .read-site .ensures) (c .before .before .before .number .ensures) (c .before .before .if1 .left)
 
 same-length-2 : tie.Need-same-length-2
 same-length-2 c = search needs

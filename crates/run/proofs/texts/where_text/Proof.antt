@@ -1,7 +1,7 @@
 -- `where_text` meets its contract: the site's refusal, then the record after the steps sheet. Assumes nothing.
 use mathlib.Core.Path.{refl}
 use Rattle.steps_sheet.specs.Steps.{headingOf}
-use Rattle.run_text.proofs.Sheets.{where-refused, fresh-sound, last-few, where-is}
+use Rattle.run_text.proofs.Sheets.{where-refused, accepted-fresh-sound, last-few, where-is}
 use Rattle.text.proofs.Printing.{text-is}
 use borrow.Author.Needs.{needs}
 use Rattle.run.proofs.texts.where_text.Statement.{statement}
@@ -26,7 +26,7 @@ returns : tie.Need-returns
 returns c = text-is _ _ (c .before .before .before .before .before .before .before .before .before .before .before .args .out .now) (where-refused (c .before .before .before .before .before .before .before .before .before .before .before .args .site .now) (c .before .before .before .before .before .before .before .before .before .before .before .args .steps .now) (c .before .before .before .before .before .before .before .read-site .ensures) (c .before .before .before .before .before .before .number .ensures) (c .before .before .before .before .before .if1 .taken)) (c .before .before .print-places .ensures)
 
 last-record-requires : tie.Need-last-record-requires
-last-record-requires c κs = fresh-sound (c .before .before .before .before .before .before .before .args .site .now) (c .before .before .before .before .before .before .before .args .steps .now) (c .before .before .before .read-site .ensures) (c .before .before .number .ensures) (c .before .if1 .left)
+last-record-requires c κs = accepted-fresh-sound (c .before .before .before .before .before .before .before .args .site .now) (c .before .before .before .before .before .before .before .args .steps .now) (c .before .before .before .read-site .ensures) (c .before .before .number .ensures) (c .before .if1 .left)
 
 print-record-requires : tie.Need-print-record-requires
 print-record-requires c κs = rw (c .before .last-record .ensures) (last-few (c .before .before .before .before .before .before .before .before .before .args .site .now) (c .before .before .before .before .before .before .before .before .before .args .steps .now) (c .before .before .before .before .before .read-site .ensures) (c .before .before .before .before .number .ensures) (c .before .before .before .if1 .left) (headingOf (c .before .before .before .before .before .before .before .before .before .args .steps .now)))
