@@ -1,7 +1,8 @@
 -- Demand 1: "Any sheet of text, any record, any number for a door or a person: the panel ends, and acts or refuses by a number
 -- from the papers. A refusal alters no record and no list lent to it." Each field is a public function, and says what follows of
 -- the definition that its promise cites. A function that answers no number tells a place or a fact: the place is there, the fact
--- is told exactly. The parts of what stands below a site sheet are in `sheet_answers/specs/Answers.antt`, `table_answers/specs/Answers.antt`
+-- is told exactly where its field has `Tells`, `Answers` or `↔`.
+-- The parts of what stands below a site sheet are in `sheet_answers/specs/Answers.antt`, `table_answers/specs/Answers.antt`
 -- and `record_answers/specs/Answers.antt`.
 use Prim.Native.Nat.{ℕ, _+_, _*_, _≤_, _<_}
 use mathlib.Core.Path.{_≡_}

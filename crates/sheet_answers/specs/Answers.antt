@@ -1,5 +1,6 @@
 -- Demand 1 of sheets and texts: each field is a public function of the crates `sheet` and `text`, and says what follows of the definition
--- that its promise cites. A function that answers no number tells a place or a fact: the place is there, the fact is told exactly.
+-- that its promise cites. A function that answers no number tells a place or a fact: the place is there, the fact is told exactly
+-- where its field has `Tells` or `↔`.
 use Prim.Native.Nat.{ℕ, _+_, _≤_, _<_}
 use mathlib.Core.Path.{_≡_}
 use mathlib.Core.Bool.{false}
