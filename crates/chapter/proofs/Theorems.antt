@@ -43,7 +43,7 @@ use Rattle.machines.specs.M0 as m0
 use Rattle.machines.specs.M1 as m1
 use Rattle.machines.specs.M3.{dap}
 use Rattle.machines.specs.M4 as m4
-use Rattle.chapter.specs.Reading.{constantsOf, stateOf, stateOf3, stateOf2, StandsFor, Enabled, Idle, FirstFailing}
+use Rattle.chapter.specs.Reading.{constantsOf, stateOf, stateOf3, stateOf2, stateOf1, StandsFor, Enabled, Idle, FirstFailing}
 use Rattle.chapter.specs.Panel.{StartOfEach, OneMove, RunOfEach, EQP-3, Live}
 use Rattle.machines.proofs.Safety.{saf-1, saf-2}
 use Rattle.chapter.proofs.Site.{axioms, saf-3, way-leads}
@@ -123,7 +123,8 @@ starts-each r s fourth =
     let ax = axioms r s in
     let third = refine.M4-refines-M3 _ ax .starts (stateOf r) fourth in
     let second = refine.M3-refines-M2 _ ax .starts (stateOf3 r) third in
-    record { fourth = fourth; third = third; second = second; initial = refine.M2-refines-M1 _ ax .starts (stateOf2 r) second }
+    let first = refine.M2-refines-M1 _ ax .starts (stateOf2 r) second in
+    record { fourth = fourth; third = third; second = second; first = first; initial = refine.M1-refines-M0 _ ax .starts (stateOf1 r) first }
 
 -- Any list of steps, done or refused, is row by row a run of each machine: the row's event, or nothing.
 pub panel-runs : (r : Record) → Shaped r → Sound r → (rows : List StepRow) → RunOfEach (constantsOf r) r rows

@@ -23,11 +23,13 @@ use Rattle.chapter.specs.Reading.{constantsOf, stateOf, stateOf3, stateO
 
 -- ---- the start
 
--- The record reads as the initial state of each machine. (The first refinement has the `init` of the initial model.)
+-- The record reads as the initial state of each machine.
 pub record StartOfEach (r : Record) : Type 0 where
   pub fourth : m4.Start (constantsOf r) (stateOf r)
   pub third : m3.Start (constantsOf r) (stateOf3 r)
   pub second : m2.Start (constantsOf r) (stateOf2 r)
+  -- which has the variables and the `init` of the initial model
+  pub first : m1.machine (constantsOf r) .Start (stateOf1 r)
   pub initial : m0.Start (constantsOf r) (stateOf1 r)
 
 -- ---- a row of a list of steps

@@ -31,7 +31,7 @@ use Rattle.grammar.specs.Sizes.{limit}
 use Rattle.site_sheet.specs.Site as site
 use Rattle.site_lines.proofs.Theorems.{line-exactly, rows-taken}
 use Rattle.site_sheet.proofs.Theorems.{given-exactly}
-use Rattle.demands.specs.DemandOne.{SiteTells, SiteAnswers}
+use Rattle.demands.specs.DemandOne.{TableLine, accepted, too-long, bad-form, out-of-range, twice, no-site, no-exit, stray, no-door, no-right, shut-out, SiteTells, SiteAnswers}
 
 pub number-most : (v : Verdict) → site.verdictNo v ≤ 10
 number-most Accepted = omega arith
@@ -46,31 +46,34 @@ number-most (NoDoor l) = omega arith
 number-most (NoRight p l) = omega arith
 number-most (ShutOut p) = omega arith
 
-place-told : (v : Verdict) → (site.verdictNo v ≤ 1 → firstPlace v ≡ 0) × (site.verdictNo v ≡ 5 → firstPlace v ≡ 1)
-place-told Accepted = ((λ _. refl), λ e. absurd (omega arith))
-place-told TooLong = ((λ _. refl), λ e. absurd (omega arith))
-place-told (BadRow n) = ((λ h. absurd (omega arith)), λ e. absurd (omega arith))
-place-told (OutOfRange n) = ((λ h. absurd (omega arith)), λ e. absurd (omega arith))
-place-told (Twice n) = ((λ h. absurd (omega arith)), λ e. absurd (omega arith))
-place-told NoSite = ((λ h. absurd (omega arith)), λ _. refl)
-place-told (NoExit l) = ((λ h. absurd (omega arith)), λ e. absurd (omega arith))
-place-told (Stray l) = ((λ h. absurd (omega arith)), λ e. absurd (omega arith))
-place-told (NoDoor l) = ((λ h. absurd (omega arith)), λ e. absurd (omega arith))
-place-told (NoRight p l) = ((λ h. absurd (omega arith)), λ e. absurd (omega arith))
-place-told (ShutOut p) = ((λ h. absurd (omega arith)), λ e. absurd (omega arith))
+-- the line of each verdict has its number and its places,
+line-of : (v : Verdict) → TableLine v (site.verdictNo v) (firstPlace v) (secondPlace v)
+line-of Accepted = accepted
+line-of TooLong = too-long
+line-of (BadRow n) = bad-form n
+line-of (OutOfRange n) = out-of-range n
+line-of (Twice n) = twice n
+line-of NoSite = no-site
+line-of (NoExit l) = no-exit l
+line-of (Stray l) = stray l
+line-of (NoDoor l) = no-door l
+line-of (NoRight p l) = no-right p l
+line-of (ShutOut p) = shut-out p
 
-second-told : (v : Verdict) → (site.verdictNo v ≡ 9 → ⊥) → secondPlace v ≡ 0
-second-told Accepted n = refl
-second-told TooLong n = refl
-second-told (BadRow k) n = refl
-second-told (OutOfRange k) n = refl
-second-told (Twice k) n = refl
-second-told NoSite n = refl
-second-told (NoExit l) n = refl
-second-told (Stray l) n = refl
-second-told (NoDoor l) n = refl
-second-told (NoRight p l) n = absurd (n refl)
-second-told (ShutOut p) n = refl
+-- and there is no other line of it
+only-line : {v : Verdict} {number place second : ℕ} → TableLine v number place second
+    → (firstPlace v ≡ place) × (secondPlace v ≡ second)
+only-line accepted = (refl, refl)
+only-line too-long = (refl, refl)
+only-line (bad-form n) = (refl, refl)
+only-line (out-of-range n) = (refl, refl)
+only-line (twice n) = (refl, refl)
+only-line no-site = (refl, refl)
+only-line (no-exit l) = (refl, refl)
+only-line (stray l) = (refl, refl)
+only-line (no-door l) = (refl, refl)
+only-line (no-right p l) = (refl, refl)
+only-line (shut-out p) = (refl, refl)
 
 -- a sheet that isn't accepted gives the blank record
 abbrev Blank : SiteRead → Type 0
@@ -117,10 +120,17 @@ blank-unsound e = false≢true e
 site-tells : (s : List ℕ) → SiteTells s
 site-tells s =
     record {
-      number = number-most (siteOf s .verdict);
+      number = line-of (siteOf s .verdict);
       exactly = given-exactly limit s;
       no-record = λ some. let e = site-blank s some in (e, λ t. blank-unsound (rw e at t));
     }
 
 pub of-site : SiteAnswers
-of-site = record { site-line-of = line-exactly; read-rows = rows-taken; read-site = site-tells; verdict-number = number-most; verdict-place = place-told; verdict-second-place = second-told }
+of-site = record {
+  site-line-of = line-exactly;
+  read-rows = rows-taken;
+  read-site = site-tells;
+  verdict-number = line-of;
+  verdict-place = λ v number place second line. only-line line .0;
+  verdict-second-place = λ v number place second line. only-line line .1;
+}

@@ -27,7 +27,7 @@ use Rattle.record.specs.Steps.{act, exist, soundStep, stepOf}
 use Rattle.record.specs.Run.{rowOf, repliesOf}
 use Rattle.tables.proofs.Cases.{either}
 use Rattle.record.proofs.Laws.{sound-stays, shaped-stays}
-use Rattle.table_answers.specs.Answers.{IsReason, none, away, barred, busy, DoesTold}
+use Rattle.table_answers.specs.Answers.{IsReason, none, away, barred, busy, DoesTells}
 use Rattle.table_answers.proofs.Doors.{effect-told}
 use Rattle.text.specs.Text.{rowOfNumbers}
 use Rattle.run_text.specs.Printed.{panelRow, answerRows, placeRows}
@@ -63,12 +63,14 @@ small away = omega arith
 small barred = omega arith
 small busy = omega arith
 
-act-small : (r : Record) (k : Kind) (d : ℕ) (does : Does) → getD (r .phase) d 0 ≤ 9 → DoesTold k (doorOf r d) does → ToldShort (act r d does)
+act-small : (r : Record) (k : Kind) (d p why : ℕ) (does : Does) → getD (r .phase) d 0 ≤ 9 → IsReason why → DoesTells k p why (doorOf r d) does
+    → ToldShort (act r d does)
 unfolding act
-act-small r k d Stays h m = record { phase-short = h; reason-short = omega arith }
-act-small r k d (Turns c why) h m = record { phase-short = m .1; reason-short = small (m .2) }
-act-small r k d (Moves c) h m =
-    let is = ap (λ (x : Door). x .phase) (m .1) in record { phase-short = omega arith; reason-short = omega arith }
+act-small r k d p why Stays h w m = record { phase-short = h; reason-short = omega arith }
+act-small r k d p why (Turns c told) h w m =
+    let turned = m .turns c told refl in record { phase-short = turned .known h; reason-short = small (turned .a-reason w) }
+act-small r k d p why (Moves c) h w m =
+    let is = ap (λ (x : Door). x .phase) (m .moves c .0 refl .1) in record { phase-short = omega arith; reason-short = omega arith }
 
 told-short : (r : Record) → Sound r → (k : Kind) (d p : ℕ) → ToldShort (stepOf r k d p)
 unfolding stepOf soundStep
@@ -76,7 +78,7 @@ told-short r s k d p =
     either ToldShort (soundB r)
     (λ _. either ToldShort (exist r k d p)
     (λ _. either ToldShort (allows k (getD (r .phase) d 0))
-    (λ _. act-small r k d _ (phase-known r s d) (effect-told k p _ (doorOf r d) (a-reason (planOf r) (r .right) (r .place) (r .phase) (r .holder) d (getD (r .holder) d 0)) (phase-known r s d)))
+    (λ _. act-small r k d p _ _ (phase-known r s d) (a-reason (planOf r) (r .right) (r .place) (r .phase) (r .holder) d (getD (r .holder) d 0)) (effect-told k p _ (doorOf r d)))
     (λ _. record { phase-short = phase-known r s d; reason-short = omega arith }))
     (λ _. record { phase-short = omega arith; reason-short = omega arith }))
     (λ _. record { phase-short = omega arith; reason-short = omega arith })

@@ -1,9 +1,9 @@
 -- Demand 1: "Any sheet of text, any record, any number for a door or a person: the panel ends, and acts or refuses by a number
 -- from the papers. A refusal alters no record and no list lent to it." Each field is a public function, and says what follows of
 -- the definition that its promise cites. A function that answers no number tells a place or a fact: the place is there, the fact
--- is told exactly. The parts of the site sheet, of the steps sheet and of what is printed are here. The others are in
--- `sheet_answers/specs/Answers.antt`, `table_answers/specs/Answers.antt`, and `record_answers/specs/Answers.antt`,
--- `record_answers/specs/Deeds.antt` and `record_answers/specs/Enums.antt`.
+-- is told exactly where its field has `Tells`, `Answers` or `↔`. The parts of the site sheet, of the steps sheet and of what is
+-- printed are here. The others are in `sheet_answers/specs/Answers.antt`, `table_answers/specs/Answers.antt`, and
+-- `record_answers/specs/Answers.antt`, `record_answers/specs/Deeds.antt` and `record_answers/specs/Enums.antt`.
 use Prim.Native.Nat.{ℕ, _+_, _*_, _≤_, _<_}
 use mathlib.Core.Path.{_≡_}
 use mathlib.Core.Bool.{true, false, cond}
@@ -12,7 +12,7 @@ use mathlib.Core.Logic.{_↔_}
 use lib.ListN.{length, drop, replicate}
 use lib.Seq.{sets}
 use lib.Dec.{eqb, leb}
-use Rattle.numbers.specs.Numbers.{doneNo, tooLongNo, noSiteNo, noRightNo, shutOutNo, tooShortNo}
+use Rattle.numbers.specs.Numbers.{doneNo, tooLongNo, badFormNo, outOfRangeNo, twiceNo, noSiteNo, noExitNo, strayNo, noDoorNo, noRightNo, shutOutNo, tooShortNo}
 use Rattle.findings.specs.declared.Printed.{Printed}
 use Rattle.findings.specs.declared.Printed.the-variants.{Text}
 use Rattle.text.specs.Printed.{printedOf, Prints}
@@ -20,6 +20,7 @@ use Rattle.phases.specs.declared.answer.Answer.the-variants.{Done}
 use Rattle.phases.specs.Answers.{answerNo}
 use Rattle.record.specs.SoundTest.{soundB}
 use Rattle.verdict.specs.declared.Verdict.{Verdict}
+use Rattle.verdict.specs.declared.Verdict.the-variants.{Accepted, TooLong, BadRow, OutOfRange, Twice, NoSite, NoExit, Stray, NoDoor, NoRight, ShutOut}
 use Rattle.grammar.specs.declared.cut.Cells.{Cells}
 use Rattle.tables.specs.Tables.{mayBe, mostPeople, mostLocations}
 use Rattle.grammar.specs.Grammar.{Row}
@@ -51,9 +52,29 @@ use Rattle.record_answers.specs.Enums.{EnumAnswers}
 
 -- ---- crates `verdict`, `site_row`, `site_tables` and `site`
 
+-- "Numbers given back", columns "No." and "Place told": the number of a verdict and its two places. "Unused place numbers are 0."
+pub data TableLine : Verdict → ℕ → ℕ → ℕ → Type 0 where
+  -- "none", "0"
+  accepted : TableLine Accepted doneNo 0 0
+  too-long : TableLine TooLong tooLongNo 0 0
+  -- "row"
+  bad-form : (row : ℕ) → TableLine (BadRow row) badFormNo row 0
+  out-of-range : (row : ℕ) → TableLine (OutOfRange row) outOfRangeNo row 0
+  twice : (row : ℕ) → TableLine (Twice row) twiceNo row 0
+  -- "1"
+  no-site : TableLine NoSite noSiteNo 1 0
+  -- "smallest such location"
+  no-exit : (location : ℕ) → TableLine (NoExit location) noExitNo location 0
+  stray : (location : ℕ) → TableLine (Stray location) strayNo location 0
+  no-door : (location : ℕ) → TableLine (NoDoor location) noDoorNo location 0
+  -- "smallest person, then location"
+  no-right : (person location : ℕ) → TableLine (NoRight person location) noRightNo person location
+  -- "smallest person"
+  shut-out : (person : ℕ) → TableLine (ShutOut person) shutOutNo person 0
+
 -- what is answered to a sheet: each number, with its place, exactly when its line of the table says so
 pub record SiteTells (s : List ℕ) : Type 0 where
-  pub number : site.verdictNo (siteOf s .verdict) ≤ shutOutNo
+  pub number : TableLine (siteOf s .verdict) (site.verdictNo (siteOf s .verdict)) (firstPlace (siteOf s .verdict)) (secondPlace (siteOf s .verdict))
   pub exactly : (v : Verdict) → (siteOf s .verdict ≡ v) ↔ Gives limit s v
   -- "A refused site sheet gives no new record.": the blank one, which isn't sound
   pub no-record : (site.verdictNo (siteOf s .verdict) ≡ doneNo → ⊥) → (siteOf s .«record» ≡ blankRecord) × (soundB (siteOf s .«record») ≡ true → ⊥)
@@ -64,11 +85,10 @@ pub record SiteAnswers : Type 0 where
   -- rows are taken into tables that hold what they say, or the first with which something is wrong is told
   pub read-rows : (s : List ℕ) (from : ℕ) (lines : List SiteLine) → TextSaysLines (drop from s) lines → RowsTold lines (readLines blankDraft 1 (linesIn s (rowsFrom s from)))
   pub read-site : (s : List ℕ) → SiteTells s
-  pub verdict-number : (v : Verdict) → site.verdictNo v ≤ shutOutNo
-  -- column "Place told": 0 with 0 and 1, and 1 with 5
-  pub verdict-place : (v : Verdict) → (site.verdictNo v ≤ tooLongNo → firstPlace v ≡ 0) × (site.verdictNo v ≡ noSiteNo → firstPlace v ≡ 1)
-  -- "Unused place numbers are 0.": 9 alone tells two
-  pub verdict-second-place : (v : Verdict) → (site.verdictNo v ≡ noRightNo → ⊥) → secondPlace v ≡ 0
+  -- each verdict has its line, with its number and its places
+  pub verdict-number : (v : Verdict) → TableLine v (site.verdictNo v) (firstPlace v) (secondPlace v)
+  pub verdict-place : (v : Verdict) (number place second : ℕ) → TableLine v number place second → firstPlace v ≡ place
+  pub verdict-second-place : (v : Verdict) (number place second : ℕ) → TableLine v number place second → secondPlace v ≡ second
 
 -- ---- crates `steps_row` and `steps`
 

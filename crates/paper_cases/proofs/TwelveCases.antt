@@ -1,7 +1,7 @@
 -- The twelve cases of paper 01, computed; what they say is in `specs/Cases.antt`. The sheets are read from their bytes. The
 -- steps are computed without the test for 14, which every record of a run passes; and so is the whole run that 01 prints
 -- (`specs/WholeRun.antt`). Assumes nothing.
-use Prim.Native.Nat.{ℕ, _-_}
+use Prim.Native.Nat.{ℕ}
 use mathlib.Core.Path.{_≡_, refl, ap, subst, _∙_}
 use mathlib.Core.Bool.{true}
 use mathlib.Core.List.{List, [], _∷_}
@@ -13,7 +13,7 @@ use Rattle.tables.specs.Way.{unlessOutside, wayOut, unvisited, wayOf, ifRoom, w
 use Rattle.record.specs.declared.record.Record.{Record}
 use Rattle.record.specs.declared.steps.Step.{Step}
 use Rattle.phases.specs.declared.table.Kind.the-variants.{Decide, Green, Walk}
-use Rattle.phases.specs.Phase.{grants, granted, green, expired, greenSpan}
+use Rattle.phases.specs.Phase.{grants, granted}
 use Rattle.record.specs.Doors.{Shaped}
 use Rattle.tables.specs.Zero.{zeros}
 use Rattle.phases.specs.Kinds.{StepRow, allows}
@@ -88,8 +88,8 @@ place-here p rows = ap (λ (x : Record). getD (x .place) p 0) (last-here rows)
 steps : (reasonAt 1 (cardAt 0 0 ∷ stepAt Decide 0 ∷ stepAt Green 0 ∷ stepAt Walk 0 ∷ cardAt 1 0 ∷ []) ≡ 1)
     × (reasonAt 1 (goesThrough 0 1 (cardAt 1 1 ∷ [])) ≡ 2)
     × (reasonAt 3 (goesThrough 0 0 (cardAt 1 0 ∷ stepAt Decide 1 ∷ cardAt 3 0 ∷ [])) ≡ 3)
-    × (phaseAt 0 (greenFor (greenSpan - 1)) ≡ green)
-    × (phaseAt 0 (greenFor greenSpan) ≡ expired)
+    × (phaseAt 0 (greenFor 299) ≡ 3)
+    × (phaseAt 0 (greenFor 300) ≡ 5)
     × (phaseAt 1 (goesThrough 0 0 (cardAt 1 0 ∷ stepAt Decide 1 ∷ [])) ≡ granted)
     × (placeAfter 1 (goesThrough 0 1 []) ≡ 1)
     × (placeAfter 0 (goesThrough 0 0 []) ≡ 1)

@@ -1,5 +1,5 @@
 -- The twelve cases of paper 01 ("Twelve cases to prove"), from the sheets' own bytes, and through the steps and the questions.
-use Prim.Native.Nat.{ℕ, _-_}
+use Prim.Native.Nat.{ℕ}
 use mathlib.Core.Path.{_≡_}
 use mathlib.Core.List.{List, [], _∷_}
 use lib.ListN.{getD}
@@ -7,7 +7,7 @@ use Rattle.numbers.specs.Numbers.{doneNo, noExitNo, strayNo, noDoorNo, noRightN
 use Rattle.record.specs.declared.record.Record.{Record}
 use Rattle.phases.specs.declared.table.Kind.the-variants.{Card, Decide, Green, Walk, Passed, Ack}
 use Rattle.asked_way.specs.{wayNo, lengthTold}
-use Rattle.phases.specs.Phase.{granted, green, expired, greenSpan}
+use Rattle.phases.specs.Phase.{granted}
 use Rattle.record.specs.Run.{rowOf, lastOf}
 use Rattle.phases.specs.Kinds.{StepRow}
 use Rattle.record.specs.Questions.{wayAnswerOf, wayWritten}
@@ -95,9 +95,9 @@ pub record TwelveCases : Type 0 where
   pub case-9-grant : phaseAt 1 (goesThrough 0 0 (cardAt 1 0 ∷ stepAt Decide 1 ∷ [])) ≡ granted
   pub case-9 : reasonAt 3 (goesThrough 0 0 (cardAt 1 0 ∷ stepAt Decide 1 ∷ cardAt 3 0 ∷ [])) ≡ 3
   -- "(10) 299 ticks after `green`: still 3"
-  pub case-10 : phaseAt 0 (greenFor (greenSpan - 1)) ≡ green
+  pub case-10 : phaseAt 0 (greenFor 299) ≡ 3
   -- "(11) 300 ticks: 5"
-  pub case-11 : phaseAt 0 (greenFor greenSpan) ≡ expired
+  pub case-11 : phaseAt 0 (greenFor 300) ≡ 5
   -- "(12) way out of 2 is 1, 0"
   pub case-12-number : wayNo (wayAnswerOf freshSite 2 (9 ∷ 9 ∷ 9 ∷ [])) ≡ doneNo
   pub case-12-length : lengthTold (wayAnswerOf freshSite 2 (9 ∷ 9 ∷ 9 ∷ [])) ≡ 2

@@ -6,8 +6,8 @@ use mathlib.Core.List.{List, []}
 use mathlib.Core.Logic.{inl, inr}
 use native.Mathlib.Omega.{arith}
 use borrow.Author.Tests.{ltb-true, ltb-false, lt-ltb}
-use lib.ListN.{getD}
-use lib.Seq.{getD-set-other}
+use lib.ListN.{getD, length-set}
+use lib.Seq.{getD-set-same, getD-set-other}
 use lib.Dec.{ltb}
 use Rattle.numbers.specs.Numbers.{noSuchNo, notAllowedNo, unsoundNo}
 use Rattle.tables.specs.Tables.{Plan, orElse, mostPeople}
@@ -32,7 +32,7 @@ use Rattle.record.specs.Doors.{recordOf}
 use Rattle.record.proofs.Deeds.{judged-step}
 use Rattle.record.proofs.Laws.{sound-steps}
 use Rattle.numbers.specs.Telling.{NumberBy, done, _unless_then_}
-use Rattle.record_answers.specs.Deeds.{JudgeTells, CarryTells, DeedsAnswers, DeedsUnique}
+use Rattle.record_answers.specs.Deeds.{JudgeTells, DoorPut, CarryTells, DeedsAnswers, DeedsUnique}
 
 exist-tells : (people doors : ℕ) (k : Kind) (d p : ℕ) → Tells (existAmong people doors k d p) ((d < doors) × (namesPerson k ≡ true → p < people))
 unfolding existAmong orElse
@@ -88,12 +88,40 @@ put-others : (d : ℕ) (phase holder count : List ℕ) (c : Door) (e : ℕ) → 
 put-others d phase holder count c e ne =
     rw (getD-set-other phase d e (c .phase) 0 ne, getD-set-other holder d e (c .holder) 0 ne, getD-set-other count d e (c .count) 0 ne)
 
+-- and is put itself, where the lists have it
+put-own : (d : ℕ) (phase holder count : List ℕ) (c : Door) (why : ℕ) → DoorPut (Puts c why) d phase holder count c why
+put-own d phase holder count c why =
+    record {
+      own-phase = getD-set-same phase d (c .phase) 0;
+      own-holder = getD-set-same holder d (c .holder) 0;
+      own-count = getD-set-same count d (c .count) 0;
+      told-done = refl;
+      told-phase = refl;
+      told-reason = refl;
+    }
+
 carry-tells : (deed : Deed) (d : ℕ) (place phase holder count : List ℕ) → CarryTells deed d place phase holder count
-carry-tells (Told-so answer so) d place phase holder count = record { unaltered = λ _. (refl, refl, refl, refl); others = λ e ne. refl }
+carry-tells (Told-so answer so) d place phase holder count =
+    record { unaltered = λ _. (refl, refl, refl, refl); others = λ e ne. refl; carried-out = (refl, refl, refl, refl, refl); as-long = (refl, refl, refl, refl) }
 carry-tells (Puts c why) d place phase holder count =
-    record { unaltered = λ no-way. absurd (no-way refl); others = put-others d phase holder count c }
+    record {
+      unaltered = λ no-way. absurd (no-way refl);
+      others = put-others d phase holder count c;
+      carried-out = (put-own d phase holder count c why, refl);
+      as-long = (refl, length-set phase d (c .phase), length-set holder d (c .holder), length-set count d (c .count));
+    }
 carry-tells (Leads c p l) d place phase holder count =
-    record { unaltered = λ no-way. absurd (no-way refl); others = put-others d phase holder count c }
+    let own = put-own d phase holder count c 0 in
+    record {
+      unaltered = λ no-way. absurd (no-way refl);
+      others = put-others d phase holder count c;
+      carried-out = (
+        record { own-phase = own .own-phase; own-holder = own .own-holder; own-count = own .own-count; told-done = refl; told-phase = refl; told-reason = refl },
+        getD-set-same place p l 0,
+        λ q other. getD-set-other place p q l 0 other,
+      );
+      as-long = (length-set place p l, length-set phase d (c .phase), length-set holder d (c .holder), length-set count d (c .count));
+    }
 
 pub of-deeds : DeedsAnswers
 of-deeds = record { judge = judge-tells; carry-out = carry-tells }

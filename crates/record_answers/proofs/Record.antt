@@ -6,7 +6,7 @@ use mathlib.Core.List.{List, _∷_, map}
 use mathlib.Core.Logic.{_⊎_, inl, inr, ⊎-elim}
 use native.Mathlib.Omega.{arith}
 use borrow.Author.Tests.{ltb-true, lt-ltb, le-leb, leb-true}
-use lib.ListN.{length, getD}
+use lib.ListN.{length, getD, replicate}
 use lib.Seq.{sets}
 use lib.Dec.{eqb, ltb, leb}
 use Rattle.tables.specs.Tables.{orElse, andAlso, mostDoors}
@@ -20,7 +20,7 @@ use Rattle.phases.specs.declared.table.Kind.{Kind}
 use Rattle.phases.specs.declared.table.Kind.the-variants.{Card, Decide, Green, Red, Walk, Tick, Passed, Lapsed, Dark, Ack, Unknown}
 use Rattle.door.specs.declared.Door.{Door}
 use Rattle.phases.specs.declared.answer.Answer.{Answer}
-use Rattle.phases.specs.declared.answer.Answer.the-variants.{Done, NoSuch, NotAllowed, Unsound}
+use Rattle.phases.specs.declared.answer.Answer.the-variants.{Done, NoSuch, NotAllowed, TooShort, Unsound}
 use Rattle.phases.specs.Answers.{answerNo}
 use Rattle.asked_place.specs.{placeTold, placeNo}
 use Rattle.asked_grant.specs.{grantTold, grantNo}
@@ -34,7 +34,8 @@ use Rattle.door_does.specs.declared.Does.{Does}
 use Rattle.door_does.specs.declared.Does.the-variants.{Stays, Turns, Moves}
 use Rattle.door_does.specs.Does.{effect}
 use Rattle.deeds.specs.Deeds.{existAmong}
-use Rattle.record.specs.Steps.{reasonFor, act, refused, doing, exist, soundStep, stepOf}
+use Rattle.record.specs.declared.steps.Step.{Step}
+use Rattle.record.specs.Steps.{reasonFor, act, refused, doing, exist, soundStep, stepOf, toldBy}
 use Rattle.deeds.specs.declared.Told.{Told}
 use Rattle.record.specs.Deeds.{telling}
 use Rattle.record.specs.Run.{Reply, lastOf, repliesOf, answerTold, phaseTold, reasonTold, rowsOf, roomFor, roomIn, ranOf, runOf, tellingOf}
@@ -44,9 +45,9 @@ use Rattle.record.proofs.Keep.{put-same}
 use Rattle.record.proofs.Fresh.{fresh-sound}
 use Rattle.record.proofs.Tells.{sound-tells}
 use Rattle.record.proofs.Asked.{place-as-said, grant-as-said, way-as-said}
-use Rattle.record.proofs.Laws.{act-done}
+use Rattle.record.proofs.Laws.{act-done, unsound-14}
 use Rattle.numbers.specs.Telling.{NumberBy}
-use Rattle.record_answers.specs.Lending.{Lent, LentRows, none, one, replyOfTold, LentIsSteps, LentIsRun}
+use Rattle.record_answers.specs.Lending.{Lent, LentRows, none, one, replyOfTold, LentIsSteps, unsoundTold, LentIsRun}
 use Rattle.record_answers.specs.Answers.{Exists, stepOrder, StepTells, Room, RunTells, PlaceTells, GrantTells, WayOutTells, RecordAnswers}
 
 -- ---- a step
@@ -207,18 +208,48 @@ lent-steps (one {row} {rows} w more) =
     let others = on .same-told ∙ ap (λ (x : Record). repliesOf x rows) (w .next) in
     record { same-record = on .same-record ∙ ap (λ (x : Record). lastOf x rows) (w .next); same-told = λ i. first i ∷ others i }
 
+-- a record that isn't sound stays, and each lending is told 14
+lent-unsound : {r last : Record} {rows : List StepRow} {told : List Told} → soundB r ≡ false → LentRows r rows last told
+    → (last ≡ r) × (told ≡ replicate (length rows) unsoundTold)
+lent-unsound s none = (refl, refl)
+lent-unsound {r} s (one {row} {rows} w more) =
+    let e = unsound-14 r (row .kind) (row .at) (row .person) s in
+    let stays : _ ≡ r = w .next ∙ ap (λ (x : Step). x .next) e in
+    let first = w .tells ∙ ap toldBy e in
+    let on = lent-unsound (ap soundB stays ∙ s) more in
+    let others = on .1 in
+    (on .0 ∙ stays, λ i. first i ∷ others i)
+
 module _ (r : Record) (steps doors persons answers phases reasons : List ℕ) where
-  lent-run : runOf r steps doors persons answers phases reasons .answer ≡ Done → (last : Record) (told : List Told)
+  lent-run : (runOf r steps doors persons answers phases reasons .answer ≡ TooShort → ⊥) → (last : Record) (told : List Told)
       → LentRows r (rowsOf steps doors persons) last told → LentIsRun r steps doors persons answers phases reasons last told
-  lent-run done last told w =
-      let ran = run-tells r steps doors persons answers phases reasons .ran done in
-      let is = lent-steps w in
-      record {
-        same-record = ran .0 ∙ sym (is .same-record);
-        same-answers = ran .1 ∙ ap (λ (l : List Reply). sets answers 0 (map answerTold l)) (sym (is .same-told));
-        same-phases = ran .2 ∙ ap (λ (l : List Reply). sets phases 0 (map phaseTold l)) (sym (is .same-told));
-        same-reasons = ran .3 ∙ ap (λ (l : List Reply). sets reasons 0 (map reasonTold l)) (sym (is .same-told));
-      }
+  unfolding ranOf
+  lent-run long last told w = go (soundB r) refl (roomIn steps doors persons answers phases reasons) refl
+    where
+      ran-so : runOf r steps doors persons answers phases reasons .answer ≡ Done → soundB r ≡ true → LentIsRun r steps doors persons answers phases reasons last told
+      ran-so done s =
+          let ran = run-tells r steps doors persons answers phases reasons .ran done in
+          let is = lent-steps w in
+          record {
+            same-record = ran .0 ∙ sym (is .same-record);
+            same-answers = λ _. ran .1 ∙ ap (λ (l : List Reply). sets answers 0 (map answerTold l)) (sym (is .same-told));
+            same-phases = λ _. ran .2 ∙ ap (λ (l : List Reply). sets phases 0 (map phaseTold l)) (sym (is .same-told));
+            same-reasons = λ _. ran .3 ∙ ap (λ (l : List Reply). sets reasons 0 (map reasonTold l)) (sym (is .same-told));
+            unsound = λ f. clash s f;
+          }
+
+      go : (s : Bool) → soundB r ≡ s → (b : Bool) → roomIn steps doors persons answers phases reasons ≡ b → LentIsRun r steps doors persons answers phases reasons last told
+      go true s true b = ran-so (rw (s, b)) s
+      go true s false b = absurd (long (rw (s, b)))
+      go false s b _ =
+          let is = lent-unsound s w in
+          record {
+            same-record = rw s (sym (is .0));
+            same-answers = λ t. clash t s;
+            same-phases = λ t. clash t s;
+            same-reasons = λ t. clash t s;
+            unsound = λ _. is .1;
+          }
 
 -- the questions: 14, then 11
 module _ (r : Record) (p : ℕ) where

@@ -17,7 +17,7 @@ use Rattle.tables.specs.Way.{wayOf}
 use Rattle.record.specs.declared.record.Record.{Record}
 use Rattle.phases.specs.declared.table.Kind.{Kind}
 use Rattle.phases.specs.declared.table.Kind.the-variants.{Card, Decide, Green, Red, Walk, Tick, Passed, Lapsed, Dark, Ack}
-use Rattle.phases.specs.declared.answer.Answer.the-variants.{Done, NoSuch, NotAllowed, Unsound}
+use Rattle.phases.specs.declared.answer.Answer.the-variants.{Done, NoSuch, NotAllowed, TooShort, Unsound}
 use Rattle.record.specs.declared.steps.Step.{Step}
 use Rattle.deeds.specs.declared.Told.{Told}
 use Rattle.phases.specs.Answers.{answerNo}
@@ -149,9 +149,10 @@ pub record RecordAnswers : Type 0 where
   pub step-lent : (r : Record) (k : Kind) (d p : ℕ) (exit : Record) (told : Told) → Lent r k d p exit told → StepTells r k d p (telling exit told)
   -- crate `lending`: the step by lending the record
   pub lend : (r : Record) (k : Kind) (d p : ℕ) → StepTells r k d p (stepOf r k d p)
-  -- lent for one step after the other, it goes through the records of these steps, and those of a run
+  -- lent for one step after the other, it goes through the records of these steps, and those of a run; but of lists that are too short
+  -- for the run (13), which then does nothing, while a lending takes no lists
   pub lent-steps : (r : Record) (rows : List StepRow) (last : Record) (told : List Told) → LentRows r rows last told → LentIsSteps r rows last told
-  pub lent-run : (r : Record) (steps doors persons answers phases reasons : List ℕ) → runOf r steps doors persons answers phases reasons .answer ≡ Done
+  pub lent-run : (r : Record) (steps doors persons answers phases reasons : List ℕ) → (runOf r steps doors persons answers phases reasons .answer ≡ TooShort → ⊥)
       → (last : Record) (told : List Told) → LentRows r (rowsOf steps doors persons) last told
       → LentIsRun r steps doors persons answers phases reasons last told
   pub card : (r : Record) (d p : ℕ) → StepTells r Card d p (stepOf r Card d p)

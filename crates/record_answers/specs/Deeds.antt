@@ -12,8 +12,10 @@ use Rattle.phases.specs.declared.answer.Answer.the-variants.{Done}
 use Rattle.phases.specs.Answers.{answerNo}
 use Rattle.phases.specs.Kinds.{namesPerson}
 use Rattle.phases.specs.Table.{asked}
+use Rattle.door.specs.declared.Door.{Door}
 use Rattle.door.specs.Door.{doorIn}
 use Rattle.deeds.specs.declared.Deed.{Deed}
+use Rattle.deeds.specs.declared.Deed.the-variants.{Tells, Puts, Leads}
 use Rattle.deeds.specs.declared.Told.{Told}
 use Rattle.deeds.specs.Deeds.{judgedOf, toldOf, placesAfter, phasesAfter, holdersAfter, countsAfter}
 use Rattle.record.specs.Doors.{recordOf, Shaped}
@@ -35,6 +37,33 @@ pub record JudgeTells (site : Plan) (right : List Bool) (place phase holder coun
       → carried (recordOf site right place phase holder count) d (judgedOf site right place phase holder count k d p)
       ≡ stepOf (recordOf site right place phase holder count) k d p
 
+-- the door's own fields are those of c, in each list that has it; done is told, with its phase and this reason
+pub record DoorPut (deed : Deed) (d : ℕ) (phase holder count : List ℕ) (c : Door) (why : ℕ) : Type 0 where
+  pub own-phase : d < length phase → getD (phasesAfter deed d phase) d 0 ≡ c .phase
+  pub own-holder : d < length holder → getD (holdersAfter deed d holder) d 0 ≡ c .holder
+  pub own-count : d < length count → getD (countsAfter deed d count) d 0 ≡ c .count
+  pub told-done : toldOf deed .answer ≡ Done
+  pub told-phase : toldOf deed .phase ≡ c .phase
+  pub told-reason : toldOf deed .reason ≡ why
+
+-- what is done at the door and to people
+abbrev pub CarriedOut : Deed → ℕ → List ℕ → List ℕ → List ℕ → List ℕ → Type 0
+-- what only tells tells no reason, and leaves every list as it was
+CarriedOut (Tells answer so) d place phase holder count =
+    (toldOf (Tells answer so) ≡ record { answer = answer; phase = so; reason = 0 })
+    × (placesAfter (Tells answer so) place ≡ place)
+    × (phasesAfter (Tells answer so) d phase ≡ phase)
+    × (holdersAfter (Tells answer so) d holder ≡ holder)
+    × (countsAfter (Tells answer so) d count ≡ count)
+-- a door is put, and nobody is moved
+CarriedOut (Puts c why) d place phase holder count =
+    DoorPut (Puts c why) d phase holder count c why × (placesAfter (Puts c why) place ≡ place)
+-- a door is put, and of all people this one is moved to this location
+CarriedOut (Leads c person to) d place phase holder count =
+    DoorPut (Leads c person to) d phase holder count c 0
+    × (person < length place → getD (placesAfter (Leads c person to) place) person 0 ≡ to)
+    × ((p : ℕ) → (p ≡ person → ⊥) → getD (placesAfter (Leads c person to) place) p 0 ≡ getD place p 0)
+
 pub record CarryTells (deed : Deed) (d : ℕ) (place phase holder count : List ℕ) : Type 0 where
   -- "After a refusal the record and every lent list hold what they held before."
   pub unaltered : (toldOf deed .answer ≡ Done → ⊥)
@@ -45,6 +74,11 @@ pub record CarryTells (deed : Deed) (d : ℕ) (place phase holder count : List �
   -- no other door is altered
   pub others : (e : ℕ) → (e ≡ d → ⊥)
       → doorIn (phasesAfter deed d phase) (holdersAfter deed d holder) (countsAfter deed d count) e ≡ doorIn phase holder count e
+  pub carried-out : CarriedOut deed d place phase holder count
+  pub as-long : (length (placesAfter deed place) ≡ length place)
+      × (length (phasesAfter deed d phase) ≡ length phase)
+      × (length (holdersAfter deed d holder) ≡ length holder)
+      × (length (countsAfter deed d count) ≡ length count)
 
 pub record DeedsAnswers : Type 0 where
   pub judge : (site : Plan) (right : List Bool) (place phase holder count : List ℕ) (k : Kind) (d p : ℕ) → JudgeTells site right place phase holder count k d p

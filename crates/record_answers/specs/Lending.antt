@@ -2,15 +2,19 @@
 -- as it was after a refusal."
 use Prim.Native.Nat.{ℕ}
 use mathlib.Core.Path.{_≡_}
+use mathlib.Core.Bool.{true, false}
 use mathlib.Core.List.{List, [], _∷_, map}
+use lib.ListN.{length, replicate}
 use lib.Seq.{sets}
 use Rattle.record.specs.declared.record.Record.{Record}
 use Rattle.deeds.specs.declared.Told.{Told}
 use Rattle.phases.specs.declared.table.Kind.{Kind}
+use Rattle.phases.specs.declared.answer.Answer.the-variants.{Unsound}
 use Rattle.phases.specs.Answers.{answerNo}
 use Rattle.phases.specs.Kinds.{StepRow}
+use Rattle.record.specs.SoundTest.{soundB}
 use Rattle.record.specs.Steps.{stepOf, toldBy}
-use Rattle.record.specs.Run.{Reply, lastOf, repliesOf, answerTold, phaseTold, reasonTold, runOf, answersOf, phasesOf, reasonsOf}
+use Rattle.record.specs.Run.{Reply, rowsOf, lastOf, repliesOf, answerTold, phaseTold, reasonTold, runOf, answersOf, phasesOf, reasonsOf}
 
 -- what the promise of `step_lent` says of one lending: the record at exit, and what is told
 pub record Lent (entry : Record) (k : Kind) (d p : ℕ) (exit : Record) (told : Told) : Type 0 where
@@ -32,9 +36,15 @@ pub record LentIsSteps (r : Record) (rows : List StepRow) (last : Record) (told 
   pub same-record : last ≡ lastOf r rows
   pub same-told : map replyOfTold told ≡ repliesOf r rows
 
--- it is the record that a run hands back, and what is told is what the run writes into its three lists
+-- what a step tells of a record that isn't sound: 14
+abbrev pub unsoundTold : Told
+unsoundTold = record { answer = Unsound; phase = 0; reason = 0 }
+
+-- it is the record that a run hands back. Of a sound record what is told is what the run writes into its three lists; of another the
+-- run answers 14 once and writes nothing, and each lending is told 14
 pub record LentIsRun (r : Record) (steps doors persons answers phases reasons : List ℕ) (last : Record) (told : List Told) : Type 0 where
   pub same-record : runOf r steps doors persons answers phases reasons .next ≡ last
-  pub same-answers : answersOf r steps doors persons answers phases reasons ≡ sets answers 0 (map answerTold (map replyOfTold told))
-  pub same-phases : phasesOf r steps doors persons answers phases reasons ≡ sets phases 0 (map phaseTold (map replyOfTold told))
-  pub same-reasons : reasonsOf r steps doors persons answers phases reasons ≡ sets reasons 0 (map reasonTold (map replyOfTold told))
+  pub same-answers : soundB r ≡ true → answersOf r steps doors persons answers phases reasons ≡ sets answers 0 (map answerTold (map replyOfTold told))
+  pub same-phases : soundB r ≡ true → phasesOf r steps doors persons answers phases reasons ≡ sets phases 0 (map phaseTold (map replyOfTold told))
+  pub same-reasons : soundB r ≡ true → reasonsOf r steps doors persons answers phases reasons ≡ sets reasons 0 (map reasonTold (map replyOfTold told))
+  pub unsound : soundB r ≡ false → told ≡ replicate (length (rowsOf steps doors persons)) unsoundTold

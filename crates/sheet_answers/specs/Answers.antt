@@ -1,6 +1,6 @@
 -- Demand 1 of sheets and texts: each field is a public function of the crates `sheet`, `cells`, `reader`, `text`, `number_rows` or
 -- `findings`, and says what follows of the definition that its promise cites. A function that answers no number tells a place or a fact:
--- the place is there, the fact is told exactly.
+-- the place is there, the fact is told exactly where its field has `Tells` or `↔`.
 use Prim.Native.Nat.{ℕ, _+_, _≤_, _<_}
 use mathlib.Core.Path.{_≡_}
 use mathlib.Core.Bool.{false}
@@ -38,19 +38,19 @@ pub record Within (s : List ℕ) (at place : ℕ) : Type 0 where
   pub from : at ≤ place
   pub to : place ≤ length s
 
--- a field's content lies in the sheet
-abbrev pub Lies : List ℕ → Cell → Type 0
-Lies s cell = Within s (cell .start) (cell .end)
+-- a field's content lies in the sheet, from `at` on
+abbrev pub Lies : List ℕ → ℕ → Cell → Type 0
+Lies s at cell = (at ≤ cell .start) × Within s (cell .start) (cell .end)
 
 abbrev pub FieldTold : List ℕ → ℕ → FieldCut → Type 0
-FieldTold s at (Next cell next) = Lies s cell × Within s at next
-FieldTold s at (Last cell next) = Lies s cell × Within s at next
+FieldTold s at (Next cell next) = Lies s at cell × Within s at next
+FieldTold s at (Last cell next) = Lies s at cell × Within s at next
 FieldTold s at (Fault byte) = Within s at byte
 
 abbrev pub RowTold : List ℕ → ℕ → RowCut → Type 0
--- a row that is cut takes a byte at least, and its cells lie in the sheet
+-- a row that is cut takes a byte at least, and its cells lie in the sheet from there on
 RowTold s at (Cut cells next) =
-    (at < next) × (next ≤ length s) × Lies s (cells .first) × (2 ≤ cells .count → Lies s (cells .second)) × (3 ≤ cells .count → Lies s (cells .third))
+    (at < next) × (next ≤ length s) × Lies s at (cells .first) × (2 ≤ cells .count → Lies s at (cells .second)) × (3 ≤ cells .count → Lies s at (cells .third))
 -- there is none at the sheet's end, and behind it
 RowTold s at NoRow = length s ≤ at
 RowTold s at (Broken byte) = Within s at byte

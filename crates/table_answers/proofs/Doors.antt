@@ -1,12 +1,11 @@
 -- Demand 1 of phases and of one door; what it says is in `specs/Answers.antt`. Assumes nothing.
 use Prim.Native.Nat.{ℕ, _+_, _-_, _≤_, _<_}
-use mathlib.Core.Path.{_≡_, refl, ap}
+use mathlib.Core.Path.{_≡_, refl, sym, ap, subst}
 use mathlib.Core.Bool.{false, cond, false≢true}
-use mathlib.Core.List.{List, [], _∷_}
-use mathlib.Core.Logic.{inl, inr}
+use mathlib.Core.List.{[], _∷_}
+use mathlib.Core.Logic.{_⊎_, inl, inr, ⊎-elim}
 use native.Mathlib.Omega.{arith}
-use borrow.Author.Tests.{ne-eqb, eqb-false}
-use lib.ListN.{length}
+use borrow.Author.Tests.{ne-eqb, eqb-true, eqb-false, ltb-true, ltb-false}
 use lib.Dec.{eqb, ltb}
 use Rattle.tables.specs.Tables.{orElse, andAlso}
 use Rattle.tables.specs.Below.{Tells}
@@ -16,10 +15,10 @@ use Rattle.phases.specs.declared.table.Kind.{Kind}
 use Rattle.phases.specs.declared.table.Kind.the-variants.{Card, Decide, Green, Red, Walk, Tick, Passed, Lapsed, Dark, Ack, Unknown}
 use Rattle.phases.specs.declared.answer.Answer.{Answer}
 use Rattle.phases.specs.declared.answer.Answer.the-variants.{Done, NoSuch, NotAllowed, TooShort, Unsound}
-use Rattle.phases.specs.Phase.{read, granted, green, walked, expired, red, dimmed, closed, greenSpan, redSpan, keeps, grants, lit, leastCount, mostCount}
+use Rattle.phases.specs.Phase.{read, granted, green, walked, expired, denied, red, dimmed, closed, greenSpan, redSpan, keeps, grants, lit, leastCount, mostCount}
 use Rattle.door.specs.Door.{door, freeDoor, doorIn}
 use Rattle.door_fits.specs.Fits.{fieldsFit}
-use Rattle.door_does.specs.declared.Does.the-variants.{Turns}
+use Rattle.door_does.specs.declared.Does.the-variants.{Stays, Turns, Moves}
 use Rattle.phases.specs.Answers.{answerNo}
 use Rattle.phases.specs.Kinds.{kindOf, numberOfKind}
 use Rattle.door_does.specs.Does.{burns, effect}
@@ -28,8 +27,8 @@ use Rattle.phases.proofs.Steps.{kind-back}
 use Rattle.tables.proofs.Cases.{either}
 use Rattle.numbers.specs.Telling.{OneOf}
 use Rattle.door_fits.proofs.Fields.{tell-fields}
-use Rattle.table_answers.specs.Answers.{IsReason, none, DoesTold, DoorFits, DoorAnswers}
-use Rattle.table_answers.proofs.Tables.{past-end}
+use Rattle.table_answers.specs.Answers.{none, Idles, ofStep, phaseThen, holderThen, countThen, DoorTurned, DoesTells, DoorFits, DoorAnswers}
+use Rattle.table_answers.proofs.Tables.{read-there}
 
 a-number : (a : Answer) → OneOf (0 ∷ 11 ∷ 12 ∷ 13 ∷ 14 ∷ []) (answerNo a)
 a-number Done = inl refl
@@ -66,36 +65,130 @@ some-step n =
     (λ low. another n 9 Ack (λ z. omega arith) low
     (λ high _. high))))))))))
 
-far-free : (phase holder count : List ℕ) (d : ℕ) → length phase ≤ d → length holder ≤ d → length count ≤ d → doorIn phase holder count d ≡ freeDoor
-far-free phase holder count d a b c = rw (past-end phase d a, past-end holder d b, past-end count d c)
+-- two kinds of different numbers
+apart : {X : Type 0} {a b : Kind} → (numberOfKind a ≡ numberOfKind b → ⊥) → a ≡ b → X
+apart other e = absurd (other (ap numberOfKind e))
 
--- a step that turns its door and tells no reason
-turning : (k : Kind) (c x : Door) → (numberOfKind k ≡ numberOfKind Passed → ⊥) → x .phase ≤ closed → DoesTold k c (Turns x 0)
-turning k c x other low = ((λ e. other (ap numberOfKind e)), low, none, λ some. absurd (some refl))
+-- a step does one of the three
+module _ (k : Kind) (p why : ℕ) (c : Door) where
+  idle-told : Idles k c → (numberOfKind k ≡ numberOfKind Passed → ⊥) → DoesTells k p why c Stays
+  idle-told is other =
+      record {
+        stays = ((λ _. is), λ _. refl);
+        moves = λ x. ((λ e. let z : _≡_ {A = ℕ} 0 1 = cc in absurd (omega arith)), λ w. apart other (w .0));
+        turns = λ x told e. let z : _≡_ {A = ℕ} 0 1 = cc in absurd (omega arith);
+      }
 
-pub effect-told : (k : Kind) (p why : ℕ) (c : Door) → IsReason why → c .phase ≤ closed → DoesTold k c (effect k p why c)
+  turn-told : (x : Door) (told : ℕ) → (numberOfKind k ≡ numberOfKind Passed → ⊥) → (Idles k c → ⊥) → DoorTurned k p why c x told
+      → DoesTells k p why c (Turns x told)
+  turn-told x told other busy turned =
+      record {
+        stays = ((λ e. let z : _≡_ {A = ℕ} 0 1 = cc in absurd (omega arith)), λ is. absurd (busy is));
+        moves = λ y. ((λ e. let z : _≡_ {A = ℕ} 0 1 = cc in absurd (omega arith)), λ w. apart other (w .0));
+        turns = λ y so e. let to : x ≡ y = cc in let tells : told ≡ so = cc in rw (← to, ← tells) turned;
+      }
+
+  -- a step other than a tick that tells no reason
+  plain-told : (x : Door) → (numberOfKind k ≡ numberOfKind Passed → ⊥) → (numberOfKind k ≡ numberOfKind Tick → ⊥)
+      → (numberOfKind k ≡ numberOfKind Unknown → ⊥) → 0 ≡ ofStep k (0 ∷ why ∷ []) → x .phase ≡ phaseThen k → x .holder ≡ holderThen k p c → x .count ≡ countThen k c
+      → x .phase ≤ closed → DoesTells k p why c (Turns x 0)
+  plain-told x not-passed not-tick not-unknown reason phase holder count known =
+      turn-told x 0 not-passed (⊎-elim (λ w. apart not-tick (w .0)) (apart not-unknown))
+      (record {
+        the-reason = reason;
+        denies = λ some. absurd (some refl);
+        the-phase = λ _ _. phase;
+        the-holder = λ _. holder;
+        the-count = count;
+        burns-on = apart not-tick;
+        goes-out = apart not-tick;
+        of-the-ten = λ _. known;
+        a-reason = λ _. none;
+      })
+
+-- a tick at a door whose light burns
+module _ (p why : ℕ) (c : Door) (out : ℕ) (lit : ((c .phase ≡ green) × (out ≡ expired)) ⊎ ((c .phase ≡ red) × (out ≡ dimmed))) where
+  burning : Idles Tick c → ⊥
+  burning = ⊎-elim (λ w. ⊎-elim (λ g. w .1 (g .0)) (λ r. w .2 (r .0)) lit) (apart (λ z. omega arith))
+
+  burn-told : DoesTells Tick p why c (burns c out)
+  burn-told =
+      either (DoesTells Tick p why c) (ltb 1 (c .count))
+      (λ more.
+      let left = ltb-true 1 (c .count) more in
+      turn-told Tick p why c (door (c .phase) (c .holder) (c .count - 1)) 0 (λ z. omega arith) burning
+      (record {
+        the-reason = refl;
+        denies = λ some. absurd (some refl);
+        the-phase = λ _ no-tick. absurd (no-tick refl);
+        the-holder = λ _. refl;
+        the-count = refl;
+        burns-on = λ _ _. refl;
+        goes-out = λ _ z. absurd (omega arith);
+        of-the-ten = λ h. h;
+        a-reason = λ _. none;
+      }))
+      (λ last.
+      let left = ltb-false 1 (c .count) last in
+      turn-told Tick p why c (door out (c .holder) 0) 0 (λ z. omega arith) burning
+      (record {
+        the-reason = refl;
+        denies = λ some. absurd (some refl);
+        the-phase = λ _ no-tick. absurd (no-tick refl);
+        the-holder = λ _. refl;
+        the-count = omega arith;
+        burns-on = λ _ some. absurd (some refl);
+        goes-out = λ _ _. lit;
+        of-the-ten = λ _. ⊎-elim (λ g. let e = g .1 in omega arith) (λ r. let e = r .1 in omega arith) lit;
+        a-reason = λ _. none;
+      }))
+
+pub effect-told : (k : Kind) (p why : ℕ) (c : Door) → DoesTells k p why c (effect k p why c)
 unfolding effect
-effect-told Card p why c w h = turning Card c (door read p 0) (λ e. omega arith) (omega arith)
-effect-told Decide p why c w h =
-    either (DoesTold Decide c) (eqb why 0) (λ _. turning Decide c (door granted (c .holder) 0) (λ e. omega arith) (omega arith))
-    (λ _. ((λ e. turning Decide c freeDoor (λ z. omega arith) (omega arith) .0 e), omega arith, w, λ _. refl))
-effect-told Green p why c w h = turning Green c (door green (c .holder) greenSpan) (λ e. omega arith) (omega arith)
-effect-told Red p why c w h = turning Red c (door red (c .holder) redSpan) (λ e. omega arith) (omega arith)
-effect-told Walk p why c w h = turning Walk c (door walked (c .holder) 0) (λ e. omega arith) (omega arith)
-effect-told Tick p why c w h =
-    let burning : (out : ℕ) → out ≤ closed → DoesTold Tick c (burns c out) =
-    λ out o.
-    either (DoesTold Tick c) (ltb 1 (c .count)) (λ _. turning Tick c (door (c .phase) (c .holder) (c .count - 1)) (λ e. omega arith) h)
-    (λ _. turning Tick c (door out (c .holder) 0) (λ e. omega arith) o) in
-    either (DoesTold Tick c) (eqb (c .phase) green) (λ _. burning expired (omega arith))
+effect-told Card p why c =
+    plain-told Card p why c (door read p 0) (λ z. omega arith) (λ z. omega arith) (λ z. omega arith) refl refl refl refl (omega arith)
+effect-told Decide p why c =
+    either (DoesTells Decide p why c) (eqb why 0)
+    (λ none-told.
+    plain-told Decide p why c (door granted (c .holder) 0) (λ z. omega arith) (λ z. omega arith) (λ z. omega arith) (sym (eqb-true why 0 none-told)) refl refl refl (omega arith))
+    (λ some-told.
+    let is-told = eqb-false why 0 some-told in
+    turn-told Decide p why c (door denied 0 0) why (λ z. omega arith) (⊎-elim (λ w. apart (λ z. omega arith) (w .0)) (apart (λ z. omega arith)))
+    (record {
+      the-reason = refl;
+      denies = λ _. refl;
+      the-phase = λ z _. absurd (is-told z);
+      the-holder = λ z. absurd (is-told z);
+      the-count = refl;
+      burns-on = apart (λ z. omega arith);
+      goes-out = apart (λ z. omega arith);
+      of-the-ten = λ _. omega arith;
+      a-reason = λ w. w;
+    }))
+effect-told Green p why c =
+    plain-told Green p why c (door green (c .holder) greenSpan) (λ z. omega arith) (λ z. omega arith) (λ z. omega arith) refl refl refl refl (omega arith)
+effect-told Red p why c =
+    plain-told Red p why c (door red (c .holder) redSpan) (λ z. omega arith) (λ z. omega arith) (λ z. omega arith) refl refl refl refl (omega arith)
+effect-told Walk p why c =
+    plain-told Walk p why c (door walked (c .holder) 0) (λ z. omega arith) (λ z. omega arith) (λ z. omega arith) refl refl refl refl (omega arith)
+effect-told Tick p why c =
+    either (DoesTells Tick p why c) (eqb (c .phase) green) (λ is. burn-told p why c expired (inl (eqb-true (c .phase) green is, refl)))
     (λ no-green.
-    either (DoesTold Tick c) (eqb (c .phase) red) (λ _. burning dimmed (omega arith))
-    (λ no-red. inl (refl, eqb-false (c .phase) green no-green, eqb-false (c .phase) red no-red)))
-effect-told Passed p why c w h = (refl, refl)
-effect-told Lapsed p why c w h = turning Lapsed c (door closed 0 0) (λ e. omega arith) (omega arith)
-effect-told Dark p why c w h = turning Dark c (door closed (c .holder) 0) (λ e. omega arith) (omega arith)
-effect-told Ack p why c w h = turning Ack c freeDoor (λ e. omega arith) (omega arith)
-effect-told Unknown p why c w h = inr refl
+    either (DoesTells Tick p why c) (eqb (c .phase) red) (λ is. burn-told p why c dimmed (inr (eqb-true (c .phase) red is, refl)))
+    (λ no-red. idle-told Tick p why c (inl (refl, eqb-false (c .phase) green no-green, eqb-false (c .phase) red no-red)) (λ z. omega arith)))
+effect-told Passed p why c =
+    record {
+      stays = ((λ e. let z : _≡_ {A = ℕ} 0 1 = cc in absurd (omega arith)), ⊎-elim (λ w. apart (λ z. omega arith) (w .0)) (apart (λ z. omega arith)));
+      moves = λ x. ((λ e. (refl, cc)), λ w. ap Moves (sym (w .1)));
+      turns = λ x told e. let z : _≡_ {A = ℕ} 0 1 = cc in absurd (omega arith);
+    }
+effect-told Lapsed p why c =
+    plain-told Lapsed p why c (door closed 0 0) (λ z. omega arith) (λ z. omega arith) (λ z. omega arith) refl refl refl refl (omega arith)
+effect-told Dark p why c =
+    plain-told Dark p why c (door closed (c .holder) 0) (λ z. omega arith) (λ z. omega arith) (λ z. omega arith) refl refl refl refl (omega arith)
+effect-told Ack p why c =
+    plain-told Ack p why c freeDoor (λ z. omega arith) (λ z. omega arith) (λ z. omega arith) refl refl refl refl (omega arith)
+effect-told Unknown p why c = idle-told Unknown p why c (inr refl) (λ z. omega arith)
 
 fits-tells : (people : ℕ) (c : Door) → Tells (fieldsFit people c) (DoorFits people c)
 fits-tells people c =
@@ -116,7 +209,7 @@ of-door =
       allowed-in = table-allows;
       grants = λ phase. tell-and (tell-le granted phase) (tell-le phase expired);
       new = λ phase holder count. (refl, refl, refl);
-      among = far-free;
+      among = λ phase holder count d. (read-there phase d, read-there holder d, read-there count d);
       free = (refl, refl, refl, free-fits);
       fits = fits-tells;
       does = effect-told;

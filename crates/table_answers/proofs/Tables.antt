@@ -1,13 +1,13 @@
 -- Demand 1 of lent lists and of the rules of tables; what it says is in `specs/Answers.antt`. Assumes nothing.
 use Prim.Native.Nat.{ℕ, _-_, _≤_, _<_}
-use mathlib.Core.Path.{_≡_, refl}
+use mathlib.Core.Path.{_≡_, refl, ap, _∙_}
 use mathlib.Core.Bool.{Bool, true, false, false≢true}
 use mathlib.Core.List.{List}
 use mathlib.Core.Logic.{inl, inr, _⊎_, ⊎-elim}
 use native.Mathlib.Omega.{arith}
 use borrow.Author.Tests.{ne-eqb, eqb-true, eq-eqb, le-ltb, ltb-true, lt-ltb, le-leb, lt-leb}
 use lib.ListN.{length, getD, length-set, List·getD-eq-default}
-use lib.Seq.{set-out, getD-set-same, getD-set-other}
+use lib.Seq.{getD-at, set-out, getD-set-same, getD-set-other}
 use lib.Dec.{eqb, ltb}
 use Rattle.tables.specs.Tables.{mayBe, orElse, andAlso, rightAt, mostLocations}
 use Rattle.tables.specs.Below.{Tells}
@@ -16,12 +16,16 @@ use Rattle.tables.specs.Way.{wayOf, ifRoom, wayToldIn, wayWrittenIn}
 use Rattle.tables.proofs.Laws.{clash, least-at}
 use Rattle.tables.proofs.Answers.{in-range-tells, rule-6, rule-7, rule-8, rule-9, rule-10, lawful-tells}
 use Rattle.tables.proofs.WayOut.{way-at-most}
-use Rattle.table_answers.specs.Answers.{PutTells, TablesAnswers, WayTells, RulesAnswers}
+use Rattle.table_answers.specs.Answers.{PutTells, ReadTells, TablesAnswers, WayTells, RulesAnswers}
 
 -- ---- lent lists
 
-pub past-end : (list : List ℕ) (at : ℕ) → length list ≤ at → getD list at 0 ≡ 0
-past-end list at h = List·getD-eq-default list 0 h
+pub read-there : (list : List ℕ) (at : ℕ) → ReadTells list at (getD list at 0)
+read-there list at =
+    record {
+      there = λ before x after is long. ap (λ (l : List ℕ). getD l at 0) is ∙ getD-at before x after 0 at long;
+      past = λ h. List·getD-eq-default list 0 h;
+    }
 
 put-there : (list : List ℕ) (at n : ℕ) → PutTells list at n
 put-there list at n =
@@ -33,7 +37,7 @@ put-there list at n =
     }
 
 pub of-tables : TablesAnswers
-of-tables = record { byte-at = past-end; word-at = past-end; put-byte = put-there; put-word = put-there }
+of-tables = record { byte-at = read-there; word-at = read-there; put-byte = put-there; put-word = put-there }
 
 -- ---- the rules of tables
 

@@ -1,5 +1,6 @@
 -- Demand 1 of lists, tables, phases and one door: each field is a public function of the crates `lists`, `rules`, `phases`, `door`, `door_fits`
--- and `door_does`, and says what follows of the definition that its promise cites. A function that answers no number tells a fact, and tells it exactly.
+-- and `door_does`, and says what follows of the definition that its promise cites. A function that answers no number tells a fact,
+-- exactly where its field has `Tells`, `Answers` or `↔`.
 use Prim.Native.Nat.{ℕ, _-_, _≤_, _<_}
 use mathlib.Core.Path.{_≡_}
 use mathlib.Core.Bool.{Bool, true, false}
@@ -15,13 +16,13 @@ use Rattle.tables.specs.Rules.{PlanInRange, FirstLocation, ExitDoor, ExitRight,
 use Rattle.tables.specs.Tests.{planInRange, firstNoExit, firstStray, firstNoDoor, firstNoRight, firstShutOut, lawfulB}
 use Rattle.tables.specs.Way.{LeadsOut, wayOf, wayToldIn, wayWrittenIn}
 use Rattle.phases.specs.declared.table.Kind.{Kind}
-use Rattle.phases.specs.declared.table.Kind.the-variants.{Decide, Tick, Passed, Unknown}
+use Rattle.phases.specs.declared.table.Kind.the-variants.{Tick, Passed, Unknown}
 use Rattle.phases.specs.declared.answer.Answer.{Answer}
 use Rattle.phases.specs.Answers.{answerNo, reasonNone, reasonAway, reasonBarred, reasonBusy}
 use Rattle.door.specs.declared.Door.{Door}
 use Rattle.door_does.specs.declared.Does.{Does}
 use Rattle.door_does.specs.declared.Does.the-variants.{Stays, Turns, Moves}
-use Rattle.phases.specs.Phase.{free, granted, green, expired, red, closed, keeps, grants, leastCount, mostCount}
+use Rattle.phases.specs.Phase.{free, read, granted, green, walked, expired, denied, red, dimmed, closed, greenSpan, redSpan, keeps, grants, leastCount, mostCount}
 use Rattle.door.specs.Door.{door, freeDoor, doorIn}
 use Rattle.door_fits.specs.Fits.{fieldsFit}
 use Rattle.door_does.specs.Does.{effect}
@@ -38,10 +39,14 @@ pub record PutTells (list : List ℕ) (at n : ℕ) : Type 0 where
   pub others : (i : ℕ) → (i ≡ at → ⊥) → getD (set list at n) i 0 ≡ getD list i 0
   pub past : length list ≤ at → set list at n ≡ list
 
--- past a list's end 0 is read
+-- n is read at a place of a list: the number that has so many before it, and past the list's end 0
+pub record ReadTells (list : List ℕ) (at n : ℕ) : Type 0 where
+  pub there : (before : List ℕ) (x : ℕ) (after : List ℕ) → list ≡ before ++ x ∷ after → length before ≡ at → n ≡ x
+  pub past : length list ≤ at → n ≡ 0
+
 pub record TablesAnswers : Type 0 where
-  pub byte-at : (list : List ℕ) (at : ℕ) → length list ≤ at → getD list at 0 ≡ 0
-  pub word-at : (list : List ℕ) (at : ℕ) → length list ≤ at → getD list at 0 ≡ 0
+  pub byte-at : (list : List ℕ) (at : ℕ) → ReadTells list at (getD list at 0)
+  pub word-at : (list : List ℕ) (at : ℕ) → ReadTells list at (getD list at 0)
   pub put-byte : (list : List ℕ) (at n : ℕ) → PutTells list at n
   pub put-word : (list : List ℕ) (at n : ℕ) → PutTells list at n
 
@@ -79,14 +84,48 @@ pub data IsReason : ℕ → Type 0 where
   barred : IsReason reasonBarred
   busy : IsReason reasonBusy
 
--- what a step of kind k does at a door that is c
-abbrev pub DoesTold : Kind → Door → Does → Type 0
--- "In any other phase: done, nothing altered.": only a tick at a door in neither 3 nor 7 alters nothing, and what is no step
-DoesTold k c Stays = ((k ≡ Tick) × (c .phase ≡ green → ⊥) × (c .phase ≡ red → ⊥)) ⊎ (k ≡ Unknown)
--- the door is left in one of the ten phases, with one of the reasons told, by `decide` alone
-DoesTold k c (Turns x why) = (k ≡ Passed → ⊥) × (x .phase ≤ closed) × IsReason why × ((why ≡ reasonNone → ⊥) → k ≡ Decide)
--- "`passed`: 4 to 9; .. the person is dropped", and it alone moves anybody
-DoesTold k c (Moves x) = (k ≡ Passed) × (x ≡ door closed 0 0)
+-- "In any other phase: done, nothing altered.": a tick at a door in neither 3 nor 7, and what is no step
+abbrev pub Idles : Kind → Door → Type 0
+Idles k c = ((k ≡ Tick) × (c .phase ≡ green → ⊥) × (c .phase ≡ red → ⊥)) ⊎ (k ≡ Unknown)
+
+-- what a list has for a step: the ten stand in the paper's order, `card`, `decide`, `green`, `red`, `walk`, `tick`, `passed`, `lapsed`, `dark`, `ack`
+abbrev pub ofStep : Kind → List ℕ → ℕ
+ofStep k list = getD list (numberOfKind k) 0
+
+-- "0 to 1", "1 to 2", "2 or 3 to 3", "6 or 7 to 7", "3 to 4", "4 to 9", "5 to 9", "8 to 9", "9 to 0": the phase that a step leads to, but a tick and a denial
+abbrev pub phaseThen : Kind → ℕ
+phaseThen k = ofStep k (read ∷ granted ∷ green ∷ red ∷ walked ∷ 0 ∷ closed ∷ closed ∷ closed ∷ free ∷ [])
+
+-- "holding the person", "person dropped": whom the door holds then, but after a denial
+abbrev pub holderThen : Kind → ℕ → Door → ℕ
+holderThen k p c = ofStep k (p ∷ c .holder ∷ c .holder ∷ c .holder ∷ c .holder ∷ c .holder ∷ 0 ∷ 0 ∷ c .holder ∷ 0 ∷ [])
+
+-- "countdown 300", "countdown 20", "the countdown falls by one", and 0 in all other phases
+abbrev pub countThen : Kind → Door → ℕ
+countThen k c = ofStep k (0 ∷ 0 ∷ greenSpan ∷ redSpan ∷ 0 ∷ (c .count - 1) ∷ 0 ∷ 0 ∷ 0 ∷ 0 ∷ [])
+
+-- a step of kind k, p the person of a card and why the reason for a denial, turns a door that is c into x and tells a reason
+pub record DoorTurned (k : Kind) (p why : ℕ) (c x : Door) (told : ℕ) : Type 0 where
+  -- `decide` tells the reason, and no other step tells one
+  pub the-reason : told ≡ ofStep k (0 ∷ why ∷ [])
+  -- "1 to .. 6", "Denied drops the person."
+  pub denies : (told ≡ reasonNone → ⊥) → x ≡ door denied 0 0
+  pub the-phase : told ≡ reasonNone → (k ≡ Tick → ⊥) → x .phase ≡ phaseThen k
+  pub the-holder : told ≡ reasonNone → x .holder ≡ holderThen k p c
+  pub the-count : x .count ≡ countThen k c
+  -- "on reaching 0 the phase becomes 5 or 8"
+  pub burns-on : k ≡ Tick → (x .count ≡ 0 → ⊥) → x .phase ≡ c .phase
+  pub goes-out : k ≡ Tick → x .count ≡ 0 → ((c .phase ≡ green) × (x .phase ≡ expired)) ⊎ ((c .phase ≡ red) × (x .phase ≡ dimmed))
+  -- so a door in one of the ten phases is left in one of them, and of the reasons one is told
+  pub of-the-ten : c .phase ≤ closed → x .phase ≤ closed
+  pub a-reason : IsReason why → IsReason told
+
+-- what such a step does at such a door: nothing exactly where it has nothing to do, a person is moved exactly by `passed`, "4 to 9; .. the
+-- person is dropped", and else the door is turned
+pub record DoesTells (k : Kind) (p why : ℕ) (c : Door) (does : Does) : Type 0 where
+  pub stays : (does ≡ Stays) ↔ Idles k c
+  pub moves : (x : Door) → (does ≡ Moves x) ↔ ((k ≡ Passed) × (x ≡ door closed 0 0))
+  pub turns : (x : Door) (told : ℕ) → does ≡ Turns x told → DoorTurned k p why c x told
 
 -- "each door's fields fit": the phase is one of the ten, a held person exists, and the countdown is within the bounds of its phase
 pub record DoorFits (people : ℕ) (c : Door) : Type 0 where
@@ -109,9 +148,12 @@ pub record DoorAnswers : Type 0 where
   pub grants : (phase : ℕ) → Tells (grants phase) ((granted ≤ phase) × (phase ≤ expired))
   -- a door has the phase, the person and the countdown that it is made with
   pub new : (phase holder count : ℕ) → (door phase holder count .phase ≡ phase) × (door phase holder count .holder ≡ holder) × (door phase holder count .count ≡ count)
-  -- beyond its lists a door is free
-  pub among : (phase holder count : List ℕ) (d : ℕ) → length phase ≤ d → length holder ≤ d → length count ≤ d → doorIn phase holder count d ≡ freeDoor
+  -- a door among lists has what each of them has for it, and past a list's end 0: beyond all three it is free
+  pub among : (phase holder count : List ℕ) (d : ℕ)
+      → ReadTells phase d (doorIn phase holder count d .phase)
+      × ReadTells holder d (doorIn phase holder count d .holder)
+      × ReadTells count d (doorIn phase holder count d .count)
   -- "0 free": person 0, countdown 0; and it fits, whatever the people
   pub free : (freeDoor .phase ≡ free) × (freeDoor .holder ≡ 0) × (freeDoor .count ≡ 0) × ((people : ℕ) → DoorFits people freeDoor)
   pub fits : (people : ℕ) (c : Door) → Tells (fieldsFit people c) (DoorFits people c)
-  pub does : (k : Kind) (p why : ℕ) (c : Door) → IsReason why → c .phase ≤ closed → DoesTold k c (effect k p why c)
+  pub does : (k : Kind) (p why : ℕ) (c : Door) → DoesTells k p why c (effect k p why c)
