@@ -68,7 +68,7 @@ act-small : (r : Record) (k : Kind) (d p why : ℕ) (does : Does) → getD (r .p
 unfolding act
 act-small r k d p why Stays h w m = record { phase-short = h; reason-short = omega arith }
 act-small r k d p why (Turns c told) h w m =
-    let turned = m .turns c told refl in record { phase-short = turned .known h; reason-short = small (turned .a-reason w) }
+    let turned = m .turns c told refl in record { phase-short = turned .of-the-ten h; reason-short = small (turned .a-reason w) }
 act-small r k d p why (Moves c) h w m =
     let is = ap (λ (x : Door). x .phase) (m .moves c .0 refl .1) in record { phase-short = omega arith; reason-short = omega arith }
 
