@@ -3,7 +3,6 @@ use Prim.Native.Nat.{ℕ}
 use mathlib.Core.Path.{_≡_}
 use mathlib.Core.List.{List, [], _∷_}
 use lib.ListN.{getD}
-use Rattle.numbers.specs.Numbers.{doneNo, noExitNo, strayNo, noDoorNo, noRightNo, shutOutNo}
 use Rattle.record.specs.declared.record.Record.{Record}
 use Rattle.phases.specs.declared.table.Kind.the-variants.{Card, Decide, Green, Walk, Passed, Ack}
 use Rattle.asked_way.specs.{wayNo, lengthTold}
@@ -74,17 +73,17 @@ pub record GivenBack (s : List ℕ) (number place second : ℕ) : Type 0 where
 
 pub record TwelveCases : Type 0 where
   -- "(1) it is accepted"
-  pub case-1 : GivenBack siteSheet doneNo 0 0
+  pub case-1 : GivenBack siteSheet 0 0 0
   -- "(2) without `exit,2,1`: 6 at 2"
-  pub case-2 : GivenBack withoutExit noExitNo 2 0
+  pub case-2 : GivenBack withoutExit 6 2 0
   -- "(3) with exits 1 to 2 and 2 to 1: 7 at 1"
-  pub case-3 : GivenBack exitsInACircle strayNo 1 0
+  pub case-3 : GivenBack exitsInACircle 7 1 0
   -- "(4) without `door,2,1`: 8 at 2"
-  pub case-4 : GivenBack withoutDoor noDoorNo 2 0
+  pub case-4 : GivenBack withoutDoor 8 2 0
   -- "(5) without `right,0,1`: 9 at person 0, location 2"
-  pub case-5 : GivenBack withoutRightOf0 noRightNo 0 2
+  pub case-5 : GivenBack withoutRightOf0 9 0 2
   -- "(6) without `right,1,1`: 10 at person 1"
-  pub case-6 : GivenBack withoutRightOf1 shutOutNo 1 0
+  pub case-6 : GivenBack withoutRightOf1 10 1 0
   -- "(7) row 6 above has reason 1"
   pub case-7 : reasonAt 1 (cardAt 0 0 ∷ stepAt Decide 0 ∷ stepAt Green 0 ∷ stepAt Walk 0 ∷ cardAt 1 0 ∷ []) ≡ 1
   -- "(8) person 1 in location 1, at door 1: reason 2"
@@ -99,6 +98,6 @@ pub record TwelveCases : Type 0 where
   -- "(11) 300 ticks: 5"
   pub case-11 : phaseAt 0 (greenFor 300) ≡ 5
   -- "(12) way out of 2 is 1, 0"
-  pub case-12-number : wayNo (wayAnswerOf freshSite 2 (9 ∷ 9 ∷ 9 ∷ [])) ≡ doneNo
+  pub case-12-number : wayNo (wayAnswerOf freshSite 2 (9 ∷ 9 ∷ 9 ∷ [])) ≡ 0
   pub case-12-length : lengthTold (wayAnswerOf freshSite 2 (9 ∷ 9 ∷ 9 ∷ [])) ≡ 2
   pub case-12 : wayWritten freshSite 2 (9 ∷ 9 ∷ 9 ∷ []) ≡ 1 ∷ 0 ∷ 9 ∷ []
