@@ -1,4 +1,5 @@
--- The papers' numbers, each under one name. 01, "Numbers given back": the column "No.", and beside each what it is given for.
+-- The papers' numbers, each under one name. 01, "Numbers given back": the column "No.", and beside each what it is given for;
+-- the later ones are of 02.
 use Prim.Native.Nat.{ℕ}
 
 -- "done"
@@ -60,3 +61,7 @@ tooShortNo = 13
 -- "unsound record"
 abbrev pub unsoundNo : ℕ
 unsoundNo = 14
+
+-- 02, C-11: "reading, 15 if the bytes aren't such a line"
+abbrev pub notALineNo : ℕ
+notALineNo = 15

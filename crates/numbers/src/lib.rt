@@ -1,5 +1,5 @@
 // The papers' numbers, each under one name: what is given back to whoever has a sheet read, a step done, a question answered or
-// a text written. 01, "Numbers given back". The definitions have the same numbers in specs/Numbers.antt.
+// a text written. 01, "Numbers given back", and 02. The definitions have the same numbers in specs/Numbers.antt.
 
 // The papers' numbers.
 pub struct Paper;
@@ -49,4 +49,7 @@ impl Paper {
 
     // unsound record
     pub const UNSOUND: u8 = 14;
+
+    // bytes that are no syslog line of ours
+    pub const NOT_A_LINE: u8 = 15;
 }

@@ -1,0 +1,101 @@
+-- Our lines, frames and streams, in bytes. 02, C-11: "For each grant, denial, passage and lapse the panel writes one, such as
+-- `<86>1 - - - - GRANT - door=3 person=1`."
+use Prim.Native.Nat.{ℕ, _+_, _*_, _≤_}
+use mathlib.Core.Path.{_≡_}
+use mathlib.Core.Bool.{Bool}
+use mathlib.Core.List.{List, [], _∷_, _++_}
+use lib.ListN.{length}
+use lib.Dec.{leb, eqb}
+use Rattle.tables.specs.Tables.{andAlso}
+use Rattle.text.specs.Text.{decimal}
+use Rattle.syslog.specs.declared.Msgid.{Msgid}
+use Rattle.syslog.specs.declared.Msgid.the-variants.{Grant, Deny, Pass, Lapse}
+use Rattle.syslog.specs.declared.Event.{Event}
+
+-- ---- the parts of a line
+
+-- "Facility is 10; severity is 6, but 5 for a denial"
+abbrev pub facility : ℕ
+facility = 10
+
+abbrev pub severityOf : Msgid → ℕ
+severityOf Grant = 6
+severityOf Deny = 5
+severityOf Pass = 6
+severityOf Lapse = 6
+
+-- "The four MSGIDs are GRANT, DENY, PASS, LAPSE."
+abbrev pub nameOf : Msgid → List ℕ
+nameOf Grant = 71 ∷ 82 ∷ 65 ∷ 78 ∷ 84 ∷ []
+nameOf Deny = 68 ∷ 69 ∷ 78 ∷ 89 ∷ []
+nameOf Pass = 80 ∷ 65 ∷ 83 ∷ 83 ∷ []
+nameOf Lapse = 76 ∷ 65 ∷ 80 ∷ 83 ∷ 69 ∷ []
+
+-- `door=`, ` person=` and ` reason=`
+abbrev pub doorMark : List ℕ
+doorMark = 100 ∷ 111 ∷ 111 ∷ 114 ∷ 61 ∷ []
+
+abbrev pub personMark : List ℕ
+personMark = 32 ∷ 112 ∷ 101 ∷ 114 ∷ 115 ∷ 111 ∷ 110 ∷ 61 ∷ []
+
+abbrev pub reasonMark : List ℕ
+reasonMark = 32 ∷ 114 ∷ 101 ∷ 97 ∷ 115 ∷ 111 ∷ 110 ∷ 61 ∷ []
+
+-- "a denial, which adds ` reason=` and the number"
+abbrev pub reasonPart : Msgid → ℕ → List ℕ
+reasonPart Grant reason = []
+reasonPart Deny reason = reasonMark ++ decimal reason
+reasonPart Pass reason = []
+reasonPart Lapse reason = []
+
+-- `door=3 person=1`: "Numbers are decimal, without needless zeros."
+abbrev pub messageOf : Event → List ℕ
+messageOf e = doorMark ++ (decimal (e .door) ++ (personMark ++ (decimal (e .person) ++ reasonPart (e .msgid) (e .reason))))
+
+-- `<86>1 - - - - GRANT - `: "The time is nil", and so is every other field of the header
+unfoldable pub lineOf : Event → List ℕ
+lineOf e =
+    60 ∷ (decimal (facility * 8 + severityOf (e .msgid))
+    ++ (62 ∷ 49 ∷ 32 ∷ 45 ∷ 32 ∷ 45 ∷ 32 ∷ 45 ∷ 32 ∷ 45 ∷ 32 ∷ (nameOf (e .msgid) ++ (32 ∷ 45 ∷ 32 ∷ messageOf e))))
+
+-- "On a stream the octet count of RFC 6587 stands in front, here `37 `."
+unfoldable pub framedOf : Event → List ℕ
+framedOf e = decimal (length (lineOf e)) ++ (32 ∷ lineOf e)
+
+-- a stream: frames, one behind the other
+unfoldable pub streamOf : List Event → List ℕ
+streamOf [] = []
+streamOf (e ∷ es) = framedOf e ++ streamOf es
+
+-- ---- which events have a line
+
+-- "a door or person over 63" has none
+abbrev pub mostNumber : ℕ
+mostNumber = 63
+
+-- "or a reason that doesn't fit the event": a denial has one of the three reasons (01, "Steps"), nothing else has one
+abbrev pub ReasonFits : Msgid → ℕ → Type 0
+ReasonFits Grant reason = reason ≡ 0
+ReasonFits Deny reason = (1 ≤ reason) × (reason ≤ 3)
+ReasonFits Pass reason = reason ≡ 0
+ReasonFits Lapse reason = reason ≡ 0
+
+pub record Fits (e : Event) : Type 0 where
+  pub door : e .door ≤ mostNumber
+  pub person : e .person ≤ mostNumber
+  pub reason : ReasonFits (e .msgid) (e .reason)
+
+-- the same as a test; `fits-tells` in proofs/Fit.antt says so
+unfoldable pub reasonFits : Msgid → ℕ → Bool
+reasonFits Grant reason = eqb reason 0
+reasonFits Deny reason = andAlso (leb 1 reason) (leb reason 3)
+reasonFits Pass reason = eqb reason 0
+reasonFits Lapse reason = eqb reason 0
+
+unfoldable pub fitsLine : Event → Bool
+fitsLine e = andAlso (leb (e .door) mostNumber) (andAlso (leb (e .person) mostNumber) (reasonFits (e .msgid) (e .reason)))
+
+-- each event of a list has a line
+pub data AllFit : List Event → Type 0 where
+  no-more : AllFit []
+  fits : {e : Event} {es : List Event} → Fits e → AllFit es → AllFit (e ∷ es)
