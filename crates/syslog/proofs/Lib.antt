@@ -4,3 +4,8 @@ pub mod Digits
 pub mod Fit
 pub mod Lengths
 pub mod Guessing
+pub mod Finding
+pub mod Streams
+pub mod Message
+pub mod Written
+pub mod Theorems
