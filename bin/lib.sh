@@ -121,7 +121,7 @@ may_open() { # FILE
 # Whether there is a standard input at all. Where there is none, whatever is opened next would stand in its place; so that is said
 # here, and the program is given an empty file.
 may_read_input() {
-    (: <&0) 2>/dev/null && return
+    (: 3<&0) 2>/dev/null && return
     say "standard input: Bad file descriptor"
     status=1
     return 1
@@ -165,7 +165,7 @@ make_ready() { # PROGRAM
 
 command_on_input() { # PROGRAM
     help_if_asked "$@"
-    [ $# -le 1 ] || fail "it reads standard input and takes no words, not $(($# - 1)); --help says more"
+    [ $# -le 1 ] || fail "it reads standard input and takes no words; --help says more"
     may_read_input || exec </dev/null
     make_ready "$1"
     run_and_say "$1"

@@ -6,7 +6,7 @@ Run it from anywhere.
 import sys
 
 from panel import EXPIRED, GREEN, Panel, Refused, panel_text, read_site, verdict, where_text
-from syslog import LONGEST_STREAM, events_text, frame, line, read_events_text, read_frame, read_line, write
+from syslog_lines import LONGEST_STREAM, events_text, frame, line, read_events_text, read_frame, read_line, write
 
 SITE = ["site,2,3", "door,0,1", "door,1,2", "door,2,1", "door,1,0", "exit,1,0", "exit,2,1", "right,0,1", "right,0,2", "right,1,1"]
 STEPS = ["card,0,0", "decide,0,", "green,0,", "walk,0,", "card,1,0", "decide,1,", "passed,0,", "red,1,", "decide,0,", "card,9,0"]
