@@ -16,6 +16,22 @@ PRINTED = ["row,answer,phase,reason", "1,0,1,0", "2,0,2,0", "3,0,3,0", "4,0,4,0"
 # 02's example, its octet count, and the denial that goes by the same words.
 EXAMPLE, EXAMPLE_LINE = ("GRANT", 3, 1, 0), b"<86>1 - - - - GRANT - door=3 person=1"
 DENIAL, DENIAL_LINE = ("DENY", 3, 1, 2), b"<85>1 - - - - DENY - door=3 person=1 reason=2"
+# What is no line by 02's words: another number, facility, severity, word, version or field, a needless zero, something more or less.
+NO_LINES = [b"<86>1 - - - - GRANT - door=64 person=1", b"<86>1 - - - - GRANT - door=3 person=64",
+            b"<86>1 - - - - GRANT - door=3 person=1 reason=1", b"<85>1 - - - - DENY - door=3 person=1",
+            b"<85>1 - - - - DENY - door=3 person=1 reason=0", b"<85>1 - - - - DENY - door=3 person=1 reason=4",
+            b"<85>1 - - - - GRANT - door=3 person=1", b"<86>1 - - - - DENY - door=3 person=1 reason=2",
+            b"<14>1 - - - - GRANT - door=3 person=1", b"<086>1 - - - - GRANT - door=3 person=1",
+            b"<86>1 - - - - GRANT - door=03 person=1", b"<86>1 - - - - GRANT - door=3 person=01",
+            b"<86>1 - - - - grant - door=3 person=1", b"<86>1 - - - - OPEN - door=3 person=1",
+            b"<86>2 - - - - GRANT - door=3 person=1", b"<86>1 2003-10-11T22:14:15Z - - - GRANT - door=3 person=1",
+            b"<86>1 - panel - - GRANT - door=3 person=1", b"<86>1 - - panel - GRANT - door=3 person=1",
+            b"<86>1 - - - 1 GRANT - door=3 person=1", b"<86>1 - - - - GRANT [a] door=3 person=1",
+            b"<86>1 - - - - GRANT - person=1 door=3", b"<86>1 - - - - GRANT - door=3  person=1",
+            b"<86>1 - - - - GRANT - door=3 person=1\n", b"<86>1 - - - - GRANT - door=18446744073709551619 person=1"]
+NO_FRAMES = [b"36 " + EXAMPLE_LINE, b"38 " + EXAMPLE_LINE, b"40 " + EXAMPLE_LINE, b"037 " + EXAMPLE_LINE, b"37" + EXAMPLE_LINE,
+             b"37  " + EXAMPLE_LINE, b"18446744073709551653 " + EXAMPLE_LINE, b" " + EXAMPLE_LINE, EXAMPLE_LINE, b"0 ", b"37 ",
+             b"37"]
 # The lines of 01's whole run, counted by hand.
 STREAM = (b"37 <86>1 - - - - GRANT - door=0 person=0"
           b"45 <85>1 - - - - DENY - door=1 person=0 reason=1"
@@ -104,9 +120,10 @@ def lines_read():
         text = frame(*event)
         expect(f"{event} from its frame", answer(read_frame, b"-" + text + b"-", 1), (event, 1 + len(text)))
     expect("the lines of all events that fit", len({line(*event) for event in EVENTS}), len(EVENTS))
-    for text in (EXAMPLE_LINE.replace(b"3", b"64"), EXAMPLE_LINE.replace(b"son=1", b"son=64"), EXAMPLE_LINE + b" reason=1",
-                 DENIAL_LINE.replace(b"n=2", b"n=0"), DENIAL_LINE.replace(b"n=2", b"n=4"), DENIAL_LINE[:-len(b" reason=2")]):
-        expect(f"{text}, whose event doesn't fit", answer(read_line, text), 15)
+    for text in NO_LINES:
+        expect(f"the line {text}", answer(read_line, text), 15)
+    for text in NO_FRAMES + [b"%d %s" % (len(text), text) for text in NO_LINES]:
+        expect(f"the frame {text}", answer(read_frame, text, 0), 15)
     for text in (EXAMPLE_LINE, DENIAL_LINE):
         for cut in range(len(text)):
             expect(f"the first {cut} bytes of a line", answer(read_line, text[:cut]), 15)
