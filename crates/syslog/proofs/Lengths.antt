@@ -36,7 +36,7 @@ head-most Deny = omega arith
 head-most Pass = omega arith
 head-most Lapse = omega arith
 
-head-least : (m : Msgid) → 26 ≤ length (headOf m)
+pub head-least : (m : Msgid) → 26 ≤ length (headOf m)
 unfolding decimal digits
 head-least Grant = omega arith
 head-least Deny = omega arith

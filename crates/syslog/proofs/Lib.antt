@@ -7,6 +7,8 @@ pub mod Guessing
 pub mod Finding
 pub mod Streams
 pub mod Loops
+pub mod Rowing
+pub mod RowLengths
 pub mod Message
 pub mod Written
 pub mod Theorems

@@ -22,7 +22,7 @@ line-told-once text (line.Is e) line.NotOurs x y = absurd (y e x)
 line-told-once text line.NotOurs (line.Is f) x y = absurd (x f y)
 line-told-once text line.NotOurs line.NotOurs x y = refl
 
-no-end : {s : List ℕ} {at : ℕ} {e : Event} {next : ℕ} → FrameAt s at e next → at ≡ length s → ⊥
+pub no-end : {s : List ℕ} {at : ℕ} {e : Event} {next : ℕ} → FrameAt s at e next → at ≡ length s → ⊥
 no-end x e = let o = frame-onward x in omega (arith, o .0, o .1)
 
 pub frame-told-once : (s : List ℕ) (at : ℕ) (a b : FrameRead) → ReadsFrame s at a → ReadsFrame s at b → a ≡ b

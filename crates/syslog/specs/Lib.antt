@@ -6,5 +6,6 @@ pub mod Line
 pub mod Numbers
 pub mod Lent
 pub mod Reading
+pub mod Rows
 pub mod Claims
 pub mod Guess
