@@ -1,0 +1,95 @@
+-- The theorems of the stream of a run; what they say is in `specs/Claims.antt`. Assumes nothing.
+--     events-fit          every event of a run from a sound record has a line
+--     stream-is-read      frame after frame a stream reads as the events of its run
+--     collector-knows     whoever reads it and has the site's sheet knows where everyone is
+--     events-text-fits    no stream is longer than the list that the program lends
+use Prim.Native.Nat.{ℕ, _≤_}
+use mathlib.Core.Path.{_≡_, refl, ap, sym, _∙_}
+use mathlib.Core.Bool.{Bool, true, false, cond}
+use mathlib.Core.List.{List, []}
+use borrow.Author.Tests.{ne-eqb, eqb-true}
+use lib.Dec.{eqb}
+use lib.ListN.{length, take}
+use Rattle.tables.specs.Tables.{mostPeople}
+use Rattle.tables.specs.Zero.{zeros}
+use Rattle.verdict.specs.declared.Verdict.the-variants.{Accepted}
+use Rattle.record.specs.declared.record.Record.{Record}
+use Rattle.site_sheet.specs.Site.{siteOf, verdictNo}
+use Rattle.steps_sheet.specs.declared.Heading.{Heading}
+use Rattle.steps_sheet.specs.declared.Heading.the-variants.{TooLong, Wrong, Rows}
+use Rattle.steps_sheet.specs.Steps.{headingOf, stepsFrom}
+use Rattle.run_text.specs.Printed.{placesText, whereText}
+use Rattle.run_text.proofs.Sheets.{zero-accepted}
+use Rattle.syslog.specs.declared.Event.{Event}
+use Rattle.syslog.specs.Line.{streamOf}
+use Rattle.syslog.specs.Reading.{StreamSays}
+use Rattle.stream_text.specs.Stream.{linesIn, stepsEvents, sheetEvents, eventsText, mostStreamText, collected}
+use Rattle.stream_text.specs.Claims.{EventsFit, StreamIsRead, CollectorKnows}
+use Rattle.stream_text.proofs.Awaited.{one-reading, stream-read-back}
+use Rattle.stream_text.proofs.Fit.{run-fits, fresh-fits, sheets-fit}
+use Rattle.stream_text.proofs.Collecting.{sheets-collected}
+use Rattle.stream_text.proofs.Lengths.{stream-fits}
+
+pub events-fit : EventsFit
+events-fit = record { of-a-run = run-fits; of-a-fresh-run = fresh-fits; of-the-sheets = sheets-fit }
+
+module _ (site steps : List ℕ) where
+  reads : StreamSays (eventsText site steps) 0 (sheetEvents site steps) true
+  unfolding eventsText
+  reads = stream-read-back (sheets-fit site steps)
+
+  -- with a refused site there are no events, and the place of nobody is printed
+  module _ (no-way : siteOf site .verdict ≡ Accepted → ⊥) where
+    refused : eqb (verdictNo (siteOf site .verdict)) 0 ≡ false
+    refused = ne-eqb _ _ (λ z. no-way (zero-accepted (siteOf site .verdict) z))
+
+    none : sheetEvents site steps ≡ []
+    unfolding sheetEvents
+    none = rw refused
+
+    header : whereText site steps ≡ placesText []
+    unfolding whereText
+    header = rw refused
+
+  no-headed : (h : Heading) → headingOf steps ≡ h → ((from : ℕ) → headingOf steps ≡ Rows from → ⊥) → stepsEvents (siteOf site .«record») steps h ≡ []
+  no-headed TooLong e no-rows = refl
+  no-headed Wrong e no-rows = refl
+  no-headed (Rows from) e no-rows = absurd (no-rows from e)
+
+  no-run : ((from : ℕ) → headingOf steps ≡ Rows from → ⊥) → sheetEvents site steps ≡ []
+  unfolding sheetEvents
+  no-run no-rows = go (eqb (verdictNo (siteOf site .verdict)) 0)
+    where
+      go : (b : Bool) → cond b (stepsEvents (siteOf site .«record») steps (headingOf steps)) [] ≡ []
+      go true = no-headed (headingOf steps) refl no-rows
+      go false = refl
+
+  a-run : siteOf site .verdict ≡ Accepted → (from : ℕ) → headingOf steps ≡ Rows from
+      → sheetEvents site steps ≡ linesIn (siteOf site .«record») (stepsFrom steps from .rows)
+  unfolding sheetEvents
+  a-run e from h = rw (e, h)
+
+  empty : sheetEvents site steps ≡ [] → eventsText site steps ≡ []
+  unfolding eventsText streamOf
+  empty e = rw e
+
+  pub stream-is-read : StreamIsRead site steps
+  stream-is-read =
+      record {
+        reads = reads;
+        only = λ es whole says. one-reading says reads;
+        a-run = a-run;
+        refused-site = λ no-way. empty (none no-way);
+        no-rows = λ no-rows. empty (no-run no-rows);
+      }
+
+  pub collector-knows : CollectorKnows site steps
+  collector-knows =
+      record {
+        stream = stream-is-read;
+        accepted = λ e es says. rw (one-reading says reads .0) (sheets-collected site steps e);
+        refused = λ no-way es says. (one-reading says reads .0 ∙ none no-way, header no-way);
+      }
+
+  pub events-text-fits : length (eventsText site steps) ≤ mostStreamText
+  events-text-fits = stream-fits site steps
