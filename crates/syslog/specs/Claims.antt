@@ -2,16 +2,18 @@
 use Prim.Native.Nat.{ℕ, _+_, _*_}
 use mathlib.Core.Path.{_≡_}
 use mathlib.Core.List.{List, [], _∷_, _++_}
-use lib.ListN.{length}
+use lib.ListN.{length, take}
 use Rattle.text.specs.Text.{decimal}
 use Rattle.syslog.specs.declared.Event.{Event}
+use Rattle.syslog.specs.declared.LineWritten.the-variants as writing
 use Rattle.syslog.specs.declared.LineRead.{LineRead}
 use Rattle.syslog.specs.declared.LineRead.the-variants as line
 use Rattle.syslog.specs.declared.FrameRead.{FrameRead}
 use Rattle.syslog.specs.declared.FrameRead.the-variants as frame
 use Rattle.syslog.specs.Line.{facility, severityOf, nameOf, messageOf, lineOf, framedOf}
 use Rattle.syslog.specs.Rfc.{said, Priority, nilValue, SyslogMsg, IsSyslogMsg, IsFrame}
-use Rattle.syslog.specs.Reading.{LineIs, FrameAt}
+use Rattle.syslog.specs.Reading.{LineIs, ReadsLine, FrameAt}
+use Rattle.syslog.specs.Lent.{Writes}
 
 -- the parts of an event's line: "every other header field nil"
 abbrev pub partsOf : Event → SyslogMsg
@@ -38,6 +40,14 @@ pub record FrameIsRfc6587 (e : Event) : Type 0 where
   pub frame : IsFrame (framedOf e) (partsOf e)
   pub count : frame .count ≡ decimal (length (lineOf e))
   pub line : frame .message ≡ lineOf e
+
+-- what is written for an event reads as that event: the line, and the frame at the front of a stream
+pub record ReadBack (e : Event) : Type 0 where
+  pub line-reads : LineIs (lineOf e) e
+  pub line-once : (told : LineRead) → ReadsLine (lineOf e) told → told ≡ line.Is e
+  -- whatever the lent list held before: the bytes that are told of are read back
+  pub line-written : (before after : List ℕ) (n : ℕ) → Writes e (lineOf e) before (writing.Text n) after → take n after ≡ lineOf e
+  pub frame-written : (before after : List ℕ) (n : ℕ) → Writes e (framedOf e) before (writing.Text n) after → FrameAt after 0 e n
 
 -- what is told of some bytes is an event exactly when they are its line, and 15 exactly when they are no line of ours
 pub record OnlyLinesRead (text : List ℕ) (told : LineRead) : Type 0 where

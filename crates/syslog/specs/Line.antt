@@ -58,6 +58,15 @@ lineOf e =
     60 ∷ (decimal (facility * 8 + severityOf (e .msgid))
     ++ (62 ∷ 49 ∷ 32 ∷ 45 ∷ 32 ∷ 45 ∷ 32 ∷ 45 ∷ 32 ∷ 45 ∷ 32 ∷ (nameOf (e .msgid) ++ (32 ∷ 45 ∷ 32 ∷ messageOf e))))
 
+-- its beginning, up to the door's number, and what follows; `head-and-tail` in proofs/Lengths.antt says that these are the line
+abbrev pub headOf : Msgid → List ℕ
+headOf m =
+    60 ∷ (decimal (facility * 8 + severityOf m)
+    ++ (62 ∷ 49 ∷ 32 ∷ 45 ∷ 32 ∷ 45 ∷ 32 ∷ 45 ∷ 32 ∷ 45 ∷ 32 ∷ (nameOf m ++ (32 ∷ 45 ∷ 32 ∷ doorMark))))
+
+abbrev pub tailOf : Event → List ℕ
+tailOf e = decimal (e .door) ++ (personMark ++ (decimal (e .person) ++ reasonPart (e .msgid) (e .reason)))
+
 -- "On a stream the octet count of RFC 6587 stands in front, here `37 `."
 unfoldable pub framedOf : Event → List ℕ
 framedOf e = decimal (length (lineOf e)) ++ (32 ∷ lineOf e)

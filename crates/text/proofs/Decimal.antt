@@ -1,5 +1,5 @@
 -- Numbers in decimal: their digits, and how many there are. Assumes nothing.
-use Prim.Native.Nat.{ℕ, zero, suc, _+_, _*_, _/_, _%_, _≤_, _<_}
+use Prim.Native.Nat.{ℕ, zero, suc, _+_, _*_, _/_, _%_, _^_, _≤_, _<_}
 use mathlib.Core.Path.{_≡_, refl, sym}
 use mathlib.Core.Bool.{Bool, true, false}
 use mathlib.Core.List.{List, [], _∷_, _++_}
@@ -60,11 +60,16 @@ wider bound width fewer n h = go (ltb n 10) refl
 pub one-digit : (n : ℕ) → n < 10 → length (decimal n) ≤ 1
 one-digit n h = rw (decimal-short n h) (omega arith)
 
+-- a number below a power of ten
+pub digits-most : (w n : ℕ) → n < 10 ^ suc w → length (decimal n) ≤ suc w
+digits-most zero n h = one-digit n (omega arith)
+digits-most (suc w) n h = let l = wider (10 ^ suc w) (suc w) (digits-most w) n (omega arith) in omega arith
+
 pub two-digits : (n : ℕ) → n < 100 → length (decimal n) ≤ 2
-two-digits = wider 10 1 one-digit
+two-digits = digits-most 1
 
 pub four-digits : (n : ℕ) → n < 10000 → length (decimal n) ≤ 4
-four-digits = wider 1000 3 (wider 100 2 two-digits)
+four-digits = digits-most 3
 
 -- and there is one at least
 pub decimal-some : (n : ℕ) → 1 ≤ length (decimal n)

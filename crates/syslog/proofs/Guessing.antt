@@ -1,0 +1,98 @@
+-- The guess made of a line or a frame is its event. Assumes nothing.
+use Prim.Native.Nat.{ℕ, _+_, _<_}
+use mathlib.Core.Path.{_≡_, refl, sym, ap, _∙_}
+use mathlib.Core.Bool.{true, false}
+use mathlib.Core.List.{List, [], _∷_, _++_, append-nil}
+use native.Mathlib.Omega.{arith}
+use borrow.Author.Tests.{le-ltb, ne-eqb}
+use lib.ListN.{length}
+use Rattle.tables.specs.Tables.{andAlso}
+use Rattle.text.specs.Text.{digitByte, digits, decimal}
+use Rattle.syslog.specs.declared.Msgid.{Msgid}
+use Rattle.syslog.specs.declared.Msgid.the-variants.{Grant, Deny, Pass, Lapse}
+use Rattle.syslog.specs.declared.Event.{Event}
+use Rattle.syslog.specs.Line.{personMark, reasonPart, lineOf, headOf, tailOf, framedOf, ReasonFits, Fits}
+use Rattle.syslog.specs.Guess.{msgidBy, msgidIn, behindMark, isDigit, numberOn, numberFrom, guessOf}
+use Rattle.syslog.proofs.Digits.{skips, Stops, at-end, at-byte, number-back}
+use Rattle.syslog.proofs.Lengths.{head-and-tail}
+
+-- ---- digits are passed over
+
+digit-no-letter : (d : ℕ) → d < 10 → (t : List ℕ) → msgidIn (digitByte d ∷ t) ≡ msgidIn t
+unfolding msgidIn
+digit-no-letter d h t = rw (le-ltb 64 (48 + d) (omega arith))
+
+digit-no-mark : (d : ℕ) → d < 10 → (t : List ℕ) → behindMark (digitByte d ∷ t) ≡ behindMark t
+unfolding behindMark
+digit-no-mark d h t = rw (ne-eqb (48 + d) 61 (λ e. omega arith))
+
+-- ---- the beginning of a line
+
+head-msgid : (m : Msgid) (t : List ℕ) → msgidIn (headOf m ++ t) ≡ m
+unfolding decimal digits msgidIn msgidBy
+head-msgid Grant t = refl
+head-msgid Deny t = refl
+head-msgid Pass t = refl
+head-msgid Lapse t = refl
+
+head-mark : (m : Msgid) (t : List ℕ) → behindMark (headOf m ++ t) ≡ t
+unfolding decimal digits behindMark
+head-mark Grant t = refl
+head-mark Deny t = refl
+head-mark Pass t = refl
+head-mark Lapse t = refl
+
+-- ---- its tail
+
+person-mark : (t : List ℕ) → behindMark (personMark ++ t) ≡ t
+unfolding behindMark
+person-mark t = refl
+
+reason-mark : (m : Msgid) (reason : ℕ) → ReasonFits m reason → numberFrom (behindMark (reasonPart m reason)) ≡ reason
+unfolding behindMark numberOn
+reason-mark Grant reason f = sym f
+reason-mark Deny reason f = rw append-nil at (number-back reason {t = []} (omega (arith, f .1)) at-end)
+reason-mark Pass reason f = sym f
+reason-mark Lapse reason f = sym f
+
+blank-stops : (t : List ℕ) → Stops (personMark ++ t)
+unfolding isDigit andAlso
+blank-stops t = at-byte {b = 32} refl
+
+reason-stops : (m : Msgid) (reason : ℕ) → Stops (reasonPart m reason)
+unfolding isDigit andAlso
+reason-stops Grant reason = at-end
+reason-stops Deny reason = at-byte {b = 32} refl
+reason-stops Pass reason = at-end
+reason-stops Lapse reason = at-end
+
+-- a text with an event's MSGID for its first word, and its tail behind the first mark
+guess-is : (e : Event) → Fits e → (t : List ℕ) → msgidIn t ≡ e .msgid → behindMark t ≡ tailOf e → guessOf t ≡ e
+guess-is e f t m b =
+    let last = decimal (e .person) ++ reasonPart (e .msgid) (e .reason) in
+    let two : behindMark (tailOf e) ≡ last = skips behindMark digit-no-mark (e .door) (personMark ++ last) ∙ person-mark last in
+    let three : behindMark last ≡ behindMark (reasonPart (e .msgid) (e .reason)) = skips behindMark digit-no-mark (e .person) (reasonPart (e .msgid) (e .reason)) in
+    let door : numberFrom (tailOf e) ≡ e .door = number-back (e .door) (omega (arith, f .door)) (blank-stops last) in
+    let person : numberFrom last ≡ e .person = number-back (e .person) (omega (arith, f .person)) (reason-stops (e .msgid) (e .reason)) in
+    rw (m, b, two, three, door, person, reason-mark (e .msgid) (e .reason) (f .reason))
+
+pub guess-line : (e : Event) → Fits e → guessOf (lineOf e) ≡ e
+guess-line e f =
+    guess-is e f (lineOf e) (ap msgidIn (head-and-tail e) ∙ head-msgid (e .msgid) (tailOf e))
+    (ap behindMark (head-and-tail e) ∙ head-mark (e .msgid) (tailOf e))
+
+-- ---- the octet count has no letter and no mark
+
+count-msgid : (n : ℕ) (t : List ℕ) → msgidIn (decimal n ++ (32 ∷ t)) ≡ msgidIn t
+unfolding msgidIn
+count-msgid n t = skips msgidIn digit-no-letter n (32 ∷ t)
+
+count-mark : (n : ℕ) (t : List ℕ) → behindMark (decimal n ++ (32 ∷ t)) ≡ behindMark t
+unfolding behindMark
+count-mark n t = skips behindMark digit-no-mark n (32 ∷ t)
+
+pub guess-frame : (e : Event) → Fits e → guessOf (framedOf e) ≡ e
+unfolding framedOf
+guess-frame e f =
+    guess-is e f (framedOf e) (count-msgid (length (lineOf e)) (lineOf e) ∙ ap msgidIn (head-and-tail e) ∙ head-msgid (e .msgid) (tailOf e))
+    (count-mark (length (lineOf e)) (lineOf e) ∙ ap behindMark (head-and-tail e) ∙ head-mark (e .msgid) (tailOf e))
