@@ -21,9 +21,9 @@ use Rattle.run_events.specs.Lines.{Line, linesOf, heardOf}
 use Rattle.run_events.specs.Events.{Meaning, Taken, Happened, Freed, Nothing, meaningOf, Spell, spellsAfter, noSpells, eventBy, eventsOf, eventsIn}
 use Rattle.syslog.specs.declared.Event.{Event}
 use Rattle.syslog.specs.Line.{framedOf, streamOf, AllFit, no-more, fits}
+use Rattle.syslog.proofs.Lengths.{frame-short}
 use Rattle.stream_text.specs.Stream.{lineEvent, linesIn, stepsEvents, sheetEvents, eventsText, mostStreamText}
 use Rattle.stream_text.proofs.Fit.{sheets-fit}
-use Rattle.stream_text.proofs.Awaited.{frame-short}
 
 -- ---- how many events there are
 
@@ -79,7 +79,7 @@ stream-short : {es : List Event} → AllFit es → length (streamOf es) ≤ 50 *
 unfolding streamOf
 stream-short no-more = omega arith
 stream-short (fits {e} {es} f on) =
-    let one = frame-short f in
+    let one = frame-short e f in
     let rest = stream-short on in
     let l = length-append (framedOf e) (streamOf es) in
     omega arith

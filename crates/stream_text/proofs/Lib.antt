@@ -1,6 +1,5 @@
 -- What is proved of the stream of a run: `Fit` that every event has a line, `Collecting` what a collector makes of it, `Lengths` how
 -- long it is, `Theorems` the theorems by name.
-pub mod Awaited
 pub mod Fit
 pub mod Collecting
 pub mod Lengths

@@ -23,9 +23,9 @@ use Rattle.run_text.proofs.Sheets.{zero-accepted}
 use Rattle.syslog.specs.declared.Event.{Event}
 use Rattle.syslog.specs.Line.{streamOf}
 use Rattle.syslog.specs.Reading.{StreamSays}
+use Rattle.syslog.proofs.Theorems.{one-reading, stream-read-back}
 use Rattle.stream_text.specs.Stream.{linesIn, stepsEvents, sheetEvents, eventsText, mostStreamText, collected}
 use Rattle.stream_text.specs.Claims.{EventsFit, StreamIsRead, CollectorKnows}
-use Rattle.stream_text.proofs.Awaited.{one-reading, stream-read-back}
 use Rattle.stream_text.proofs.Fit.{run-fits, fresh-fits, sheets-fit}
 use Rattle.stream_text.proofs.Collecting.{sheets-collected}
 use Rattle.stream_text.proofs.Lengths.{stream-fits}
@@ -36,7 +36,7 @@ events-fit = record { of-a-run = run-fits; of-a-fresh-run = fresh-fits; of-the-s
 module _ (site steps : List ℕ) where
   reads : StreamSays (eventsText site steps) 0 (sheetEvents site steps) true
   unfolding eventsText
-  reads = stream-read-back (sheets-fit site steps)
+  reads = stream-read-back (sheetEvents site steps) (sheets-fit site steps)
 
   -- with a refused site there are no events, and the place of nobody is printed
   module _ (no-way : siteOf site .verdict ≡ Accepted → ⊥) where
@@ -73,11 +73,15 @@ module _ (site steps : List ℕ) where
   unfolding eventsText streamOf
   empty e = rw e
 
+  -- a whole reading is of those events
+  only-these : (es : List Event) → StreamSays (eventsText site steps) 0 es true → es ≡ sheetEvents site steps
+  only-these es says = one-reading (eventsText site steps) 0 es _ true true says reads .0
+
   pub stream-is-read : StreamIsRead site steps
   stream-is-read =
       record {
         reads = reads;
-        only = λ es whole says. one-reading says reads;
+        only = λ es whole says. one-reading (eventsText site steps) 0 es _ whole true says reads;
         a-run = a-run;
         refused-site = λ no-way. empty (none no-way);
         no-rows = λ no-rows. empty (no-run no-rows);
@@ -87,8 +91,8 @@ module _ (site steps : List ℕ) where
   collector-knows =
       record {
         stream = stream-is-read;
-        accepted = λ e es says. rw (one-reading says reads .0) (sheets-collected site steps e);
-        refused = λ no-way es says. (one-reading says reads .0 ∙ none no-way, header no-way);
+        accepted = λ e es says. rw (only-these es says) (sheets-collected site steps e);
+        refused = λ no-way es says. (only-these es says ∙ none no-way, header no-way);
       }
 
   pub events-text-fits : length (eventsText site steps) ≤ mostStreamText
