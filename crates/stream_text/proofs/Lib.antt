@@ -3,4 +3,6 @@
 pub mod Fit
 pub mod Collecting
 pub mod Lengths
+pub mod Rows
+pub mod Sheets
 pub mod Theorems
