@@ -89,6 +89,25 @@ module _ (phase reason d p : ℕ) where
 
 -- ---- whose card is at a door
 
+-- a step that neither takes a card nor frees the door leaves it
+pub card-stays : (kind : Kind) (answer person was : ℕ) → (kind ≡ Card → ⊥) → (kind ≡ Ack → ⊥) → was ≡ cardAfter kind answer person was
+unfolding cardAfter
+card-stays kind answer person was no-card no-ack = go (eqb answer 0) kind no-card no-ack
+  where
+    go : (b : Bool) (k : Kind) → (k ≡ Card → ⊥) → (k ≡ Ack → ⊥) → was ≡ cond b (cardBy k person was) was
+    go false k a b = refl
+    go true Card a b = absurd (a refl)
+    go true Decide a b = refl
+    go true Green a b = refl
+    go true Red a b = refl
+    go true Walk a b = refl
+    go true Tick a b = refl
+    go true Passed a b = refl
+    go true Lapsed a b = refl
+    go true Dark a b = refl
+    go true Ack a b = absurd (b refl)
+    go true Unknown a b = refl
+
 -- the person of the spell at a door, after the line of a step there
 spell-person : (line : Line) (n : ℕ) (s : Spell)
     → spellBy (meaningOf line) n (line .row .person) s .person ≡ cardAfter (line .row .kind) (line .reply .answer) (line .row .person) (s .person)
@@ -116,7 +135,7 @@ Cards spells cards = (d : ℕ) → d < mostDoors → spells d .person ≡ getD c
 
 cards-after : (spells : ℕ → Spell) (n : ℕ) (line : Line) (cards : List ℕ) → length cards ≡ mostDoors → Cards spells cards
     → Cards (spellsAfter spells n line)
-      (set cards (line .row .at) (cardAfter (line .row .kind) (line .reply .answer) (line .row .person) (getD cards (line .row .at) 0)))
+    (set cards (line .row .at) (cardAfter (line .row .kind) (line .reply .answer) (line .row .person) (getD cards (line .row .at) 0)))
 cards-after spells n line cards long held d h =
     let there = line .row .at in
     ⊎-elim
