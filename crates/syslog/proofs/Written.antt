@@ -16,7 +16,7 @@ use Rattle.syslog.specs.declared.Event.{Event}
 use Rattle.syslog.specs.declared.LineWritten.{LineWritten}
 use Rattle.syslog.specs.declared.LineWritten.the-variants.{Text, Unfit, TooShort}
 use Rattle.syslog.specs.Line.{lineOf, framedOf, Fits, fitsLine}
-use Rattle.syslog.specs.Lent.{writtenOf, listWith, Writes}
+use Rattle.syslog.specs.Lent.{writtenOf, listWith, Writes, asLine}
 use Rattle.syslog.specs.Reading.{FrameAt}
 use Rattle.syslog.proofs.Fit.{fits-tells}
 
@@ -26,11 +26,6 @@ use Rattle.syslog.proofs.Fit.{fits-tells}
 pub writes-unfit : {e : Event} {text out : List ℕ} → fitsLine e ≡ false → Writes e text out Unfit out
 unfolding writtenOf listWith
 writes-unfit f = record { answer = rw f; list = rw f }
-
--- what is told of the text of one that fits
-abbrev pub asLine : Printed → LineWritten
-asLine (printed.Text n) = Text n
-asLine printed.TooShort = TooShort
 
 pub writes-printed : {e : Event} {text out after : List ℕ} {told : Printed} → fitsLine e ≡ true → Prints text out told after → Writes e text out (asLine told) after
 unfolding writtenOf listWith printedOf

@@ -5,6 +5,8 @@ use mathlib.Core.Path.{_≡_}
 use mathlib.Core.Bool.{cond}
 use mathlib.Core.List.{List}
 use lib.ListN.{length}
+use Rattle.findings.specs.declared.Printed.{Printed}
+use Rattle.findings.specs.declared.Printed.the-variants as printed
 use Rattle.text.specs.Printed.{fitsIn, written}
 use Rattle.syslog.specs.declared.Event.{Event}
 use Rattle.syslog.specs.declared.LineWritten.{LineWritten}
@@ -23,3 +25,8 @@ listWith e text out = cond (fitsLine e) (written text out) out
 pub record Writes (e : Event) (text before : List ℕ) (told : LineWritten) (after : List ℕ) : Type 0 where
   pub answer : told ≡ writtenOf e text before
   pub list : after ≡ listWith e text before
+
+-- what is told of the text of an event that fits
+abbrev pub asLine : Printed → LineWritten
+asLine (printed.Text n) = Text n
+asLine printed.TooShort = TooShort

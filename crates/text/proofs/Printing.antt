@@ -27,11 +27,20 @@ pub record Measured (text out whole : List ℕ) (size : ℕ) : Type 0 where
   pub short : length whole < size → Prints text out TooShort whole
   pub long : {after : List ℕ} {end : ℕ} → size ≤ length whole → Wrote whole 0 text after end → length whole < lastPlace → Prints text out (Text end) after
 
--- `front` is the part of the list, no bytes long, into which the text was written to measure it
+-- `front` is the part of a list, no bytes long, into which a text was written to measure it: the list is as it was,
+pub unaltered : {text front out : List ℕ} {size : ℕ} → Wrote [] 0 text front size → front ++ out ≡ out
+unfolding behind
+unaltered {text} {out = out} w = ap (λ (f : List ℕ). f ++ out) (w .list ∙ sets-past [] 0 text (omega arith))
+
+-- and its size is the text's length
+pub size-is : {text front : List ℕ} {size : ℕ} → Wrote [] 0 text front size → length text ≤ lastPlace → size ≡ length text
+unfolding behind
+size-is {text} {size = size} w few = let p : size ≡ behind 0 (length text) = w .place in omega arith
+
 pub measured : {text front out : List ℕ} {size : ℕ} → Wrote [] 0 text front size → Measured text out (front ++ out) size
 unfolding behind
 measured {text} {front} {out} {size} w =
-    let e : front ++ out ≡ out = ap (λ (f : List ℕ). f ++ out) (w .list ∙ sets-past [] 0 text (omega arith)) in
+    let e : front ++ out ≡ out = unaltered w in
     let p : size ≡ behind 0 (length text) = w .place in
     let same : length (front ++ out) ≡ length out = ap length e in
     record {

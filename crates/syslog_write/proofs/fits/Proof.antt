@@ -1,0 +1,24 @@
+-- `fits` meets its contract: three tests, one after the other. Assumes nothing.
+use Rattle.tables.proofs.Cases.{chain-above, chain-within}
+use Rattle.syslog.specs.Line.{fitsLine}
+use borrow.Author.Needs.{needs}
+use Rattle.syslog_write.proofs.fits.Statement.{statement}
+use Rattle.syslog_write.proofs.fits.Tie as tie
+
+returns : tie.Need-returns
+unfolding fitsLine
+returns c = chain-above _ _ _ (c .if1 .taken)
+
+returns-2 : tie.Need-returns-2
+unfolding fitsLine
+returns-2 c = chain-within _ _ _ _ (c .before .before .if1 .left) (chain-above _ _ _ (c .if2 .taken))
+
+reason-fits-requires : tie.Need-reason-fits-requires
+reason-fits-requires c κs = search needs
+
+returns-3 : tie.Need-returns-3
+unfolding fitsLine
+returns-3 c = chain-within _ _ _ _ (c .before .before .before .if1 .left) (chain-within _ _ _ _ (c .before .if2 .left) (c .reason-fits .ensures))
+
+pub fits-spec : {M : Type 1} → statement M
+fits-spec = tie.close (tie.spec returns returns-2 reason-fits-requires returns-3)

@@ -1,0 +1,51 @@
+-- `reason_fits` meets its contract, by what the event is. Assumes nothing.
+use mathlib.Core.Path.{sym, ap, _∙_}
+use Rattle.syslog.specs.Line.{reasonFits}
+use borrow.Author.Needs.{needs}
+use Rattle.syslog_write.proofs.reason_fits.Statement.{statement}
+use Rattle.syslog_write.proofs.reason_fits.Tie as tie
+
+enum-told : tie.Need-enum-told
+enum-told c = search needs
+
+enum-told-2 : tie.Need-enum-told-2
+enum-told-2 c = search needs
+
+is-reason-requires : tie.Need-is-reason-requires
+is-reason-requires c κs = search needs
+
+enum-told-3 : tie.Need-enum-told-3
+enum-told-3 c = search needs
+
+enum-told-4 : tie.Need-enum-told-4
+enum-told-4 c = search needs
+
+returns : tie.Need-returns
+unfolding reasonFits
+returns c = rw (c .enum-told .given .1)
+
+returns-2 : tie.Need-returns-2
+unfolding reasonFits
+returns-2 c = rw (c .before .enum-told2 .given .1) (c .is-reason .ensures)
+
+returns-3 : tie.Need-returns-3
+unfolding reasonFits
+returns-3 c = rw (c .enum-told3 .given .1)
+
+returns-4 : tie.Need-returns-4
+unfolding reasonFits
+returns-4 c = rw (c .enum-told4 .given .1)
+
+pub reason-fits-spec : {M : Type 1} → statement M
+reason-fits-spec =
+    tie.close
+    (tie.spec
+    enum-told
+    enum-told-2
+    is-reason-requires
+    enum-told-3
+    enum-told-4
+    returns
+    returns-2
+    returns-3
+    returns-4)

@@ -1,0 +1,30 @@
+-- `write_frame` meets its contract: an event that doesn't fit is refused first. Assumes nothing.
+use mathlib.Core.Path.{sym, _∙_}
+use borrow.Author.Tests.{not-true, not-false}
+use Rattle.syslog.proofs.Written.{writes-unfit, writes-printed}
+use borrow.Author.Needs.{needs}
+use Rattle.syslog_write.proofs.write_frame.Statement.{statement}
+use Rattle.syslog_write.proofs.write_frame.Tie as tie
+
+fits-requires : tie.Need-fits-requires
+fits-requires c κs = search needs
+
+returns : tie.Need-returns
+returns c = writes-unfit (sym (c .before .fits2 .ensures) ∙ not-true (c .before .fits2 .result) (c .if1 .taken))
+
+print-frame-requires : tie.Need-print-frame-requires
+print-frame-requires c κs = search needs
+
+as-line-requires : tie.Need-as-line-requires
+as-line-requires c κs = search needs
+
+same-length : tie.Need-same-length
+same-length c = search needs
+
+returns-2 : tie.Need-returns-2
+returns-2 c = rw (c .as-line .ensures) (writes-printed (sym (c .before .before .before .before .before .before .fits2 .ensures) ∙ not-false (c .before .before .before .before .before .before .fits2 .result) (c .before .before .before .before .before .if1 .left)) (c .before .before .before .print-frame .ensures))
+
+pub write-frame-spec : {M : Type 1} → statement M
+write-frame-spec =
+    tie.close
+    (tie.spec fits-requires returns print-frame-requires as-line-requires same-length returns-2)
