@@ -4,5 +4,4 @@
 // that a run fills. The definitions are in the crate `stream_text`, in the words of paper 02, C-11.
 mod blank;
 mod rows;
-mod stub;
-// pub mod texts;
+pub mod texts;

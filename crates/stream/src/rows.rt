@@ -5,7 +5,6 @@ ghost use Rattle.tables.specs.Tables.{mostDoors};
 ghost use Rattle.text.specs.Wrote.{Wrote};
 ghost use Rattle.syslog.specs.Line.{framedOf};
 ghost use Rattle.stream_text.specs.Rows.{Heard, decidedEvent, toldText, cardAfter, streamFrom};
-use crate::stub::put_frame;
 use lists::byte_at;
 use lists::put_word;
 use lists::word_at;
@@ -14,6 +13,7 @@ use phases::phase::Phase;
 use phases::table::Kind;
 use syslog::Event;
 use syslog::Msgid;
+use syslog_write::put_frame;
 use tables::MOST_DOORS;
 
 // Nobody's card is at any door.

@@ -4,8 +4,9 @@ use mathlib.Core.Path.{_≡_, refl, sym, ap, _∙_}
 use mathlib.Core.Bool.{true}
 use mathlib.Core.List.{List, [], _∷_, map}
 use native.Mathlib.Omega.{arith}
-use borrow.Author.Tests.{ne-eqb}
-use lib.ListN.{length, getD, length-map}
+use borrow.Author.Tests.{ne-eqb, le-leb}
+use lib.Dec.{leb}
+use lib.ListN.{length, getD, take, length-map}
 use Rattle.tables.specs.Tables.{mostDoors}
 use Rattle.phases.specs.declared.answer.Answer.{Answer}
 use Rattle.phases.specs.declared.answer.Answer.the-variants.{Done, NoSuch, NotAllowed, TooShort, Unsound}
@@ -15,14 +16,18 @@ use Rattle.record.specs.declared.record.Record.{Record}
 use Rattle.record.specs.Doors.{Shaped}
 use Rattle.record.specs.Sound.{Sound}
 use Rattle.record.specs.SoundTest.{soundB}
-use Rattle.record.specs.Run.{rowOf, rowsOf, repliesOf, answerTold, phaseTold, reasonTold}
+use Rattle.record.specs.Run.{Reply, rowOf, rowsOf, roomIn, tellingOf, repliesOf, answerTold, phaseTold, reasonTold}
 use Rattle.record.proofs.Laws.{done-did, sound-stays, shaped-stays}
 use Rattle.record.proofs.Tells.{sound-tells}
 use Rattle.site_sheet.specs.declared.SiteRead.{SiteRead}
 use Rattle.site_sheet.specs.Site.{siteOf, verdictNo}
+use Rattle.findings.specs.declared.Printed.the-variants.{Text}
+use Rattle.text.specs.Printed.{fitsIn, printedOf, written, Prints}
 use Rattle.steps_sheet.specs.declared.Heading.{Heading}
+use Rattle.steps_sheet.specs.declared.Heading.the-variants.{TooLong, Wrong}
+use Rattle.steps_sheet.specs.Says.{Steps}
 use Rattle.steps_sheet.specs.Steps.{headingOf}
-use Rattle.run_text.proofs.Serving.{told-length, parts-back}
+use Rattle.run_text.proofs.Serving.{front-of, has-room, ran-told, told-length, parts-back, rows-back, Decodes}
 use Rattle.run_events.specs.Lines.{heardOf}
 use Rattle.syslog.specs.Line.{streamOf}
 use Rattle.stream_text.specs.Stream.{linesIn, stepsEvents, sheetEvents, eventsText}
@@ -41,6 +46,22 @@ module _ (site steps : List ℕ) {read : SiteRead} {n : ℕ} (is : read ≡ site
   pub stream-is : n ≡ 0 → {h : Heading} → headingOf steps ≡ h → streamOf (stepsEvents (read .«record») steps h) ≡ eventsText site steps
   unfolding eventsText sheetEvents
   stream-is z e = rw (number-is, z, e, is)
+
+-- a sheet that can't be run has an empty stream
+module _ (r : Record) (steps : List ℕ) where
+  pub long-stream : headingOf steps ≡ TooLong → [] ≡ streamOf (stepsEvents r steps (headingOf steps))
+  unfolding streamOf
+  long-stream e = rw e
+
+  pub wrong-stream : headingOf steps ≡ Wrong → [] ≡ streamOf (stepsEvents r steps (headingOf steps))
+  unfolding streamOf
+  wrong-stream e = rw e
+
+-- which is printed into every list
+pub nothing-printed : (text out : List ℕ) → [] ≡ text → Prints text out (Text 0) out
+unfolding fitsIn printedOf written
+nothing-printed text out e =
+    let fit : leb 0 (length out) ≡ true = le-leb 0 (length out) (omega arith) in record { answer = rw (← e, fit); list = rw (← e, fit) }
 
 -- ---- a run in lent lists
 
@@ -78,6 +99,15 @@ module _ (r : Record) (kinds doors persons : List ℕ) (d : length doors ≡ len
   rows-long : length (rowsOf kinds doors persons) ≡ length kinds
   rows-long = sym (length-map (rowsOf kinds doors persons) (λ (row : StepRow). row .at)) ∙ (ap length (rows-doors kinds doors persons d p) ∙ d)
 
+  -- what a run with room for its answers tells
+  pub run-told : soundB r ≡ true → (answers phases reasons : List ℕ) → length kinds ≤ length answers → length kinds ≤ length phases
+      → length kinds ≤ length reasons → (tell : Reply → ℕ) (list : List ℕ) {after : List ℕ} → length kinds ≤ length list
+      → after ≡ tellingOf r (roomIn kinds doors persons answers phases reasons) (map tell (repliesOf r (rowsOf kinds doors persons))) list
+      → take (length kinds) after ≡ map tell (repliesOf r (rowsOf kinds doors persons))
+  run-told s answers phases reasons ha hf hr tell list hl e =
+      let room : roomIn kinds doors persons answers phases reasons ≡ true = rw (d, p) (has-room (length kinds) _ _ _ ha hf hr) in
+      front-of _ list (sym (told-length tell r (rowsOf kinds doors persons) ∙ rows-long)) hl (ran-told r _ _ list s room e)
+
   -- what is heard of their run
   pub run-heard : Shaped r → soundB r ≡ true → {answers phases reasons : List ℕ} → answers ≡ map answerTold (repliesOf r (rowsOf kinds doors persons))
       → phases ≡ map phaseTold (repliesOf r (rowsOf kinds doors persons)) → reasons ≡ map reasonTold (repliesOf r (rowsOf kinds doors persons))
@@ -100,3 +130,8 @@ module _ (r : Record) (kinds doors persons : List ℕ) (d : length doors ≡ len
       → streamFrom kinds doors persons answers phases reasons ≡ streamOf (linesIn r (rowsOf kinds doors persons))
   unfolding heardOf
   run-stream a ph why = rw (a, ph, why, parts-back (repliesOf r (rowsOf kinds doors persons)))
+
+-- the fronts of three decoded lists are the steps of the sheet
+pub decoded-rows : {steps : Steps} {count : ℕ} {kinds doors persons : List ℕ} → Decodes steps count kinds doors persons
+    → rowsOf (take count kinds) (take count doors) (take count persons) ≡ steps .rows
+decoded-rows {steps} d = rw (d .kinds-are, d .doors-are, d .persons-are) (rows-back (steps .rows))
