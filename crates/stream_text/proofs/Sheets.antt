@@ -95,41 +95,49 @@ rows-doors (k ∷ kinds) [] persons d p = absurd (omega arith)
 rows-doors (k ∷ kinds) (x ∷ doors) [] d p = absurd (omega arith)
 rows-doors (k ∷ kinds) (x ∷ doors) (y ∷ persons) d p = ap (λ (l : List ℕ). x ∷ l) (rows-doors kinds doors persons (omega arith) (omega arith))
 
+-- what is heard of a run in lent lists, and its stream
+pub record HeardOf (r : Record) (kinds doors persons answers phases reasons : List ℕ) : Type 0 where
+  pub heard : Heard kinds doors persons answers phases reasons
+  pub stream : streamFrom kinds doors persons answers phases reasons ≡ streamOf (linesIn r (rowsOf kinds doors persons))
+
+-- what a run's lists of answers, phases and reasons have behind a run with room for them
+abbrev Behind : Record → List ℕ → List ℕ → List ℕ → (answers phases reasons : List ℕ) → (Reply → ℕ) → List ℕ → List ℕ → Type 0
+Behind r kinds doors persons answers phases reasons tell list after =
+    after ≡ tellingOf r (roomIn kinds doors persons answers phases reasons) (map tell (repliesOf r (rowsOf kinds doors persons))) list
+
 module _ (r : Record) (kinds doors persons : List ℕ) (d : length doors ≡ length kinds) (p : length persons ≡ length kinds) where
   rows-long : length (rowsOf kinds doors persons) ≡ length kinds
   rows-long = sym (length-map (rowsOf kinds doors persons) (λ (row : StepRow). row .at)) ∙ (ap length (rows-doors kinds doors persons d p) ∙ d)
 
-  -- what a run with room for its answers tells
-  pub run-told : soundB r ≡ true → (answers phases reasons : List ℕ) → length kinds ≤ length answers → length kinds ≤ length phases
-      → length kinds ≤ length reasons → (tell : Reply → ℕ) (list : List ℕ) {after : List ℕ} → length kinds ≤ length list
-      → after ≡ tellingOf r (roomIn kinds doors persons answers phases reasons) (map tell (repliesOf r (rowsOf kinds doors persons))) list
-      → take (length kinds) after ≡ map tell (repliesOf r (rowsOf kinds doors persons))
-  run-told s answers phases reasons ha hf hr tell list hl e =
-      let room : roomIn kinds doors persons answers phases reasons ≡ true = rw (d, p) (has-room (length kinds) _ _ _ ha hf hr) in
-      front-of _ list (sym (told-length tell r (rowsOf kinds doors persons) ∙ rows-long)) hl (ran-told r _ _ list s room e)
-
-  -- what is heard of their run
-  pub run-heard : Shaped r → soundB r ≡ true → {answers phases reasons : List ℕ} → answers ≡ map answerTold (repliesOf r (rowsOf kinds doors persons))
+  heard-so : Shaped r → soundB r ≡ true → {answers phases reasons : List ℕ} → answers ≡ map answerTold (repliesOf r (rowsOf kinds doors persons))
       → phases ≡ map phaseTold (repliesOf r (rowsOf kinds doors persons)) → reasons ≡ map reasonTold (repliesOf r (rowsOf kinds doors persons))
-      → Heard kinds doors persons answers phases reasons
-  run-heard sh s a ph why =
+      → HeardOf r kinds doors persons answers phases reasons
+  unfolding heardOf
+  heard-so sh s a ph why =
       record {
-        doors-long = d;
-        persons-long = p;
-        answers-long = rw a (told-length answerTold r _ ∙ rows-long);
-        phases-long = rw ph (told-length phaseTold r _ ∙ rows-long);
-        reasons-long = rw why (told-length reasonTold r _ ∙ rows-long);
-        exists = λ i h e.
-            rw (rows-doors kinds doors persons d p) at
-            (door-exists (rowsOf kinds doors persons) r sh (sound-tells r sh .yes s) i (rw rows-long h) (rw a at e));
+        heard = record {
+          doors-long = d;
+          persons-long = p;
+          answers-long = rw a (told-length answerTold r _ ∙ rows-long);
+          phases-long = rw ph (told-length phaseTold r _ ∙ rows-long);
+          reasons-long = rw why (told-length reasonTold r _ ∙ rows-long);
+          exists = λ i h e.
+              rw (rows-doors kinds doors persons d p) at
+              (door-exists (rowsOf kinds doors persons) r sh (sound-tells r sh .yes s) i (rw rows-long h) (rw a at e));
+        };
+        stream = rw (a, ph, why, parts-back (repliesOf r (rowsOf kinds doors persons)));
       }
 
-  -- and its stream
-  pub run-stream : {answers phases reasons : List ℕ} → answers ≡ map answerTold (repliesOf r (rowsOf kinds doors persons))
-      → phases ≡ map phaseTold (repliesOf r (rowsOf kinds doors persons)) → reasons ≡ map reasonTold (repliesOf r (rowsOf kinds doors persons))
-      → streamFrom kinds doors persons answers phases reasons ≡ streamOf (linesIn r (rowsOf kinds doors persons))
-  unfolding heardOf
-  run-stream a ph why = rw (a, ph, why, parts-back (repliesOf r (rowsOf kinds doors persons)))
+  pub run-heard : Shaped r → soundB r ≡ true → (answers phases reasons : List ℕ) → length kinds ≤ length answers → length kinds ≤ length phases
+      → length kinds ≤ length reasons → {answers′ phases′ reasons′ : List ℕ} → Behind r kinds doors persons answers phases reasons answerTold answers answers′
+      → Behind r kinds doors persons answers phases reasons phaseTold phases phases′ → Behind r kinds doors persons answers phases reasons reasonTold reasons reasons′
+      → HeardOf r kinds doors persons (take (length kinds) answers′) (take (length kinds) phases′) (take (length kinds) reasons′)
+  run-heard sh s answers phases reasons ha hf hr a ph why =
+      let room : roomIn kinds doors persons answers phases reasons ≡ true = rw (d, p) (has-room (length kinds) _ _ _ ha hf hr) in
+      let long : (tell : Reply → ℕ) → length kinds ≡ length (map tell (repliesOf r (rowsOf kinds doors persons))) =
+      λ tell. sym (told-length tell r (rowsOf kinds doors persons) ∙ rows-long) in
+      heard-so sh s (front-of _ answers (long answerTold) ha (ran-told r _ _ answers s room a)) (front-of _ phases (long phaseTold) hf (ran-told r _ _ phases s room ph))
+      (front-of _ reasons (long reasonTold) hr (ran-told r _ _ reasons s room why))
 
 -- the fronts of three decoded lists are the steps of the sheet
 pub decoded-rows : {steps : Steps} {count : ℕ} {kinds doors persons : List ℕ} → Decodes steps count kinds doors persons
