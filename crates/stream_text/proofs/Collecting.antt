@@ -20,7 +20,6 @@ use Rattle.card_by_card.specs.Served.{Fresh}
 use Rattle.card_by_card.specs.Warden.{isPassage, placesBy}
 use Rattle.card_by_card.proofs.Warden.{put-by-passages}
 use Rattle.run_text.specs.Printed.{placesText, recordText, lastRecord, whereText}
-use Rattle.syslog.specs.declared.Event.{Event}
 use Rattle.stream_text.specs.Stream.{lineEvent, linesIn, stepsEvents, sheetEvents, isPass, collected}
 use Rattle.stream_text.proofs.Fit.{accepted-fresh}
 

@@ -18,7 +18,7 @@ use Rattle.phases.specs.Kinds.{StepRow}
 use Rattle.record.specs.declared.record.Record.{Record}
 use Rattle.record.specs.declared.steps.Step.{Step}
 use Rattle.record.specs.Doors.{planOf, doorOf, freshRecord, Shaped}
-use Rattle.record.specs.Sound.{Sound, DoorOk}
+use Rattle.record.specs.Sound.{Sound}
 use Rattle.record.specs.Steps.{First, none, away, barred, busy, reasonFor, doing}
 use Rattle.record.specs.Run.{rowOf}
 use Rattle.record.proofs.Right.{reason-first}
@@ -32,7 +32,7 @@ use Rattle.steps_sheet.specs.declared.Heading.{Heading}
 use Rattle.steps_sheet.specs.declared.Heading.the-variants.{TooLong, Wrong, Rows}
 use Rattle.steps_sheet.specs.Steps.{headingOf}
 use Rattle.run_events.specs.Lines.{heardOf}
-use Rattle.run_events.specs.Events.{What, Grant, Denial, Passage, Lapse, RunEvent, event, Spell, noSpells, eventsOf}
+use Rattle.run_events.specs.Events.{Grant, Denial, RunEvent, event, Spell, noSpells, eventsOf}
 use Rattle.run_events.specs.Told.{Agree, whatBy, seenOf, eventsSeen}
 use Rattle.run_events.proofs.Steps.{not-done}
 use Rattle.run_events.proofs.Theorems.{all-seen, fresh-agree}

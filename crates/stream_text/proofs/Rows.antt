@@ -1,6 +1,6 @@
 -- The rows of a run, written as frames one behind the other: what one step writes, and the loop over the rows. Assumes nothing.
 use Prim.Native.Nat.{ℕ, _+_, _≤_, _<_}
-use mathlib.Core.Path.{_≡_, refl, sym, ap, subst, _∙_}
+use mathlib.Core.Path.{_≡_, refl, sym, ap, _∙_}
 use mathlib.Core.Bool.{Bool, true, false, cond}
 use mathlib.Core.List.{List, [], _∷_, _++_, map, append-nil, append-assoc}
 use mathlib.Core.Logic.{⊎-elim}
@@ -10,7 +10,6 @@ use borrow.Author.Tests.{eq-eqb, ne-eqb, eqb-true}
 use lib.Dec.{eqb}
 use lib.ListN.{length, getD, set, drop, replicate, length-set, length-replicate, drop-of-length-le}
 use lib.Seq.{drop-cons, getD-set-same, getD-set-other}
-use Rattle.numbers.specs.Numbers.{doneNo}
 use Rattle.tables.specs.Tables.{mostDoors}
 use Rattle.tables.specs.Zero.{zeros}
 use Rattle.tables.proofs.Cases.{same-or-not}
@@ -19,11 +18,11 @@ use Rattle.phases.specs.declared.table.Kind.{Kind}
 use Rattle.phases.specs.declared.table.Kind.the-variants.{Card, Decide, Green, Red, Walk, Tick, Passed, Lapsed, Dark, Ack, Unknown}
 use Rattle.phases.specs.Phase.{granted}
 use Rattle.phases.specs.Kinds.{kindOf}
-use Rattle.record.specs.Run.{Reply, rowsOf}
+use Rattle.record.specs.Run.{rowsOf}
 use Rattle.text.specs.Wrote.{lastPlace, Wrote}
 use Rattle.text.proofs.Writing.{Pending, begun, more, ended, said}
 use Rattle.run_events.specs.Lines.{Line, linesOf}
-use Rattle.run_events.specs.Events.{What, Grant, Denial, Passage, Lapse, RunEvent, event, Meaning, Taken, Happened, Freed, Nothing, meaningBy, meaningOf, Spell, spellBy, spellsAfter, noSpells, eventBy, eventsOf}
+use Rattle.run_events.specs.Events.{RunEvent, Meaning, Taken, Happened, Freed, Nothing, meaningBy, meaningOf, Spell, spellBy, spellsAfter, noSpells, eventBy, eventsOf}
 use Rattle.run_events.proofs.Steps.{after-here, after-there}
 use Rattle.run_text.specs.Printed.{repliesFrom}
 use Rattle.syslog.specs.declared.Msgid.{Msgid}

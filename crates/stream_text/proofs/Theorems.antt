@@ -4,16 +4,13 @@
 --     collector-knows     whoever reads it and has the site's sheet knows where everyone is
 --     events-text-fits    no stream is longer than the list that the program lends
 use Prim.Native.Nat.{ℕ, _≤_}
-use mathlib.Core.Path.{_≡_, refl, ap, sym, _∙_}
+use mathlib.Core.Path.{_≡_, refl, _∙_}
 use mathlib.Core.Bool.{Bool, true, false, cond}
 use mathlib.Core.List.{List, []}
-use borrow.Author.Tests.{ne-eqb, eqb-true}
+use borrow.Author.Tests.{ne-eqb}
 use lib.Dec.{eqb}
-use lib.ListN.{length, take}
-use Rattle.tables.specs.Tables.{mostPeople}
-use Rattle.tables.specs.Zero.{zeros}
+use lib.ListN.{length}
 use Rattle.verdict.specs.declared.Verdict.the-variants.{Accepted}
-use Rattle.record.specs.declared.record.Record.{Record}
 use Rattle.site_sheet.specs.Site.{siteOf, verdictNo}
 use Rattle.steps_sheet.specs.declared.Heading.{Heading}
 use Rattle.steps_sheet.specs.declared.Heading.the-variants.{TooLong, Wrong, Rows}
@@ -24,7 +21,7 @@ use Rattle.syslog.specs.declared.Event.{Event}
 use Rattle.syslog.specs.Line.{streamOf}
 use Rattle.syslog.specs.Reading.{StreamSays}
 use Rattle.syslog.proofs.Theorems.{one-reading, stream-read-back}
-use Rattle.stream_text.specs.Stream.{linesIn, stepsEvents, sheetEvents, eventsText, mostStreamText, collected}
+use Rattle.stream_text.specs.Stream.{linesIn, stepsEvents, sheetEvents, eventsText, mostStreamText}
 use Rattle.stream_text.specs.Claims.{EventsFit, StreamIsRead, CollectorKnows}
 use Rattle.stream_text.proofs.Fit.{run-fits, fresh-fits, sheets-fit}
 use Rattle.stream_text.proofs.Collecting.{sheets-collected}
