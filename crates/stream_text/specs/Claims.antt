@@ -15,7 +15,7 @@ use Rattle.site_sheet.specs.Site.{siteOf}
 use Rattle.steps_sheet.specs.declared.Heading.the-variants.{Rows}
 use Rattle.steps_sheet.specs.Steps.{headingOf, stepsFrom}
 use Rattle.run_events.specs.Lines.{heardOf}
-use Rattle.run_events.specs.Events.{Spell, eventsOf}
+use Rattle.run_events.specs.Events.{RunEvent, Spell, eventsOf, eventsIn}
 use Rattle.run_events.specs.Told.{Agree}
 use Rattle.card_by_card.specs.Served.{Fresh}
 use Rattle.run_text.specs.Printed.{placesText, whereText}
@@ -34,15 +34,21 @@ pub record EventsFit : Type 0 where
   -- and of every two sheets
   pub of-the-sheets : (site steps : List ℕ) → AllFit (sheetEvents site steps)
 
+-- two events of a run are the same but for the row
+pub record SameButRow (e f : RunEvent) : Type 0 where
+  pub same-what : e .what ≡ f .what
+  pub same-door : e .at ≡ f .at
+  pub same-person : e .person ≡ f .person
+
 -- Frame after frame a stream reads as the events of its run.
 pub record StreamIsRead (site steps : List ℕ) : Type 0 where
   -- the stream of two sheets reads as their events, and ends behind them,
   pub reads : StreamSays (eventsText site steps) 0 (sheetEvents site steps) true
   -- as nothing else,
   pub only : (es : List Event) (whole : Bool) → StreamSays (eventsText site steps) 0 es whole → (es ≡ sheetEvents site steps) × (whole ≡ true)
-  -- and these are the events of the run, in the order of the rows, where there is one;
+  -- and where there is a run, these are its events, each of them, in the order of the rows;
   pub a-run : siteOf site .verdict ≡ Accepted → (from : ℕ) → headingOf steps ≡ Rows from
-      → sheetEvents site steps ≡ linesIn (siteOf site .«record») (stepsFrom steps from .rows)
+      → sheetEvents site steps ≡ map lineEvent (eventsIn (siteOf site .«record») (stepsFrom steps from .rows))
   -- with a refused site, or a long or wrongly headed steps sheet, there are none
   pub refused-site : (siteOf site .verdict ≡ Accepted → ⊥) → eventsText site steps ≡ []
   pub no-rows : ((from : ℕ) → headingOf steps ≡ Rows from → ⊥) → eventsText site steps ≡ []
