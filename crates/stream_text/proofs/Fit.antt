@@ -40,6 +40,7 @@ use Rattle.card_by_card.specs.Served.{Fresh}
 use Rattle.run_text.proofs.Sheets.{zero-accepted}
 use Rattle.syslog.specs.Line.{AllFit, no-more, fits, mostNumber}
 use Rattle.stream_text.specs.Stream.{lineEvent, linesIn, stepsEvents, sheetEvents}
+use Rattle.stream_text.proofs.Sheets.{lines-are, long-none, wrong-none}
 
 -- ---- one step
 
@@ -117,7 +118,7 @@ fresh-fits r f rows =
     let room : length (r .place) ≡ mostPeople = ap (λ (x : Record). length (x .place)) (f .fresh) ∙ zeros-long mostPeople in
     let people = f .sound .tables .in-range .people-to in
     let free : (d : ℕ) → doorOf r d ≡ freeDoor = λ d. ap (λ (x : Record). doorOf x d) (f .fresh) ∙ fresh-free (planOf r) (r .right) d in
-    run-fits r (f .shaped) (f .sound) (omega arith) noSpells 1 (fresh-agree r free) rows
+    subst AllFit (sym (lines-are r rows)) (run-fits r (f .shaped) (f .sound) (omega arith) noSpells 1 (fresh-agree r free) rows)
 
 pub accepted-fresh : (site : List ℕ) → siteOf site .verdict ≡ Accepted → Fresh (siteOf site .«record»)
 accepted-fresh site e =
@@ -125,8 +126,8 @@ accepted-fresh site e =
     record { fresh = subst (λ (r : Record). r ≡ freshRecord (planOf r) (r .right)) (sym (a .fresh)) refl; shaped = a .shaped; sound = a .sound }
 
 headed-fit : (r : Record) → Fresh r → (steps : List ℕ) (h : Heading) → AllFit (stepsEvents r steps h)
-headed-fit r f steps TooLong = no-more
-headed-fit r f steps Wrong = no-more
+headed-fit r f steps TooLong = subst AllFit (sym (long-none r steps)) no-more
+headed-fit r f steps Wrong = subst AllFit (sym (wrong-none r steps)) no-more
 headed-fit r f steps (Rows from) = fresh-fits r f _
 
 pub sheets-fit : (site steps : List ℕ) → AllFit (sheetEvents site steps)

@@ -29,11 +29,24 @@ use Rattle.steps_sheet.specs.Says.{Steps}
 use Rattle.steps_sheet.specs.Steps.{headingOf}
 use Rattle.run_text.proofs.Serving.{front-of, has-room, ran-told, told-length, parts-back, rows-back, Decodes}
 use Rattle.run_events.specs.Lines.{heardOf}
+use Rattle.run_events.specs.Events.{eventsIn}
 use Rattle.syslog.specs.Line.{streamOf}
-use Rattle.stream_text.specs.Stream.{linesIn, stepsEvents, sheetEvents, eventsText}
+use Rattle.stream_text.specs.Stream.{lineEvent, linesIn, stepsEvents, sheetEvents, eventsText}
 use Rattle.stream_text.specs.Rows.{streamFrom, Heard}
 
 -- ---- two sheets
+
+-- "For each grant, denial, passage and lapse the panel writes one"
+pub lines-are : (r : Record) (rows : List StepRow) → linesIn r rows ≡ map lineEvent (eventsIn r rows)
+lines-are r rows = refl
+
+-- a sheet that can't be run has no events
+module _ (r : Record) (steps : List ℕ) where
+  pub long-none : stepsEvents r steps TooLong ≡ []
+  long-none = refl
+
+  pub wrong-none : stepsEvents r steps Wrong ≡ []
+  wrong-none = refl
 
 module _ (site steps : List ℕ) {read : SiteRead} {n : ℕ} (is : read ≡ siteOf site) (number : n ≡ verdictNo (read .verdict)) where
   number-is : verdictNo (siteOf site .verdict) ≡ n
@@ -47,7 +60,7 @@ module _ (site steps : List ℕ) {read : SiteRead} {n : ℕ} (is : read ≡ site
   unfolding eventsText sheetEvents
   stream-is z e = rw (number-is, z, e, is)
 
--- a sheet that can't be run has an empty stream
+-- and so an empty stream
 module _ (r : Record) (steps : List ℕ) where
   pub long-stream : headingOf steps ≡ TooLong → [] ≡ streamOf (stepsEvents r steps (headingOf steps))
   unfolding streamOf
