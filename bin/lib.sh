@@ -1,5 +1,6 @@
 # What the commands of bin/ share. A command defines `help`, which says what it reads and prints, and ends with
-# `command_on_folder PROGRAM "$@"`, which runs the proved program on the two sheets of a folder.
+# `command_on_folder PROGRAM "$@"`, which runs the proved program on the two sheets of a folder, or with
+# `command_on_input PROGRAM "$@"`, which runs it on standard input.
 #
 # The program says on standard error what went wrong and has no exit status of its own; the command ends with status 1 if the
 # program said anything. Status 2 is for what keeps the program from being run at all.
@@ -75,7 +76,7 @@ progress() { # LOG LEFT
 }
 
 # Proves and builds a program, which rt leaves in target/bin; it counts as old as the moment when that began. When rt fails, the
-# program of before stays older than its sources, and isn't run.
+# program of before stays older than its sources, and isn't run. What stands on standard input is the program's, and not for rt.
 build() { # PROGRAM CRATES
     need_kit
     log=$root/target/log/$1.build
@@ -83,7 +84,7 @@ build() { # PROGRAM CRATES
     count=$(printf '%s\n' "$2" | wc -l)
     say "the program $1 is proved and built anew, from $((count)) crates; what rt says is in $log"
     [ -x "$root/target/bin/$1" ] || rm -f "$root/target/stamp/$1" # else rt takes a program that is gone for proved and built
-    (cd "$root" && rt check "$1") 2>&1 | progress "$log" "$count" && is_proved "$1" ||
+    (cd "$root" && rt check "$1" </dev/null) 2>&1 | progress "$log" "$count" && is_proved "$1" ||
         fail "there is no proved program $1: $(tail -n 1 "$log"); what else rt said is in $log"
     touch -r "$log.begun" "$root/target/bin/$1"
 }
@@ -99,7 +100,7 @@ need_processor() {
     [ -x "$tools/bin/qemu-x86_64" ] || fail "the Rattle kit has no emulator for this processor, $machine"
 }
 
-run() { # PROGRAM SITE STEPS
+run() { # PROGRAM [WORD]..
     program=$root/target/bin/$1
     shift
     case $machine in
@@ -117,24 +118,62 @@ may_open() { # FILE
     return 1
 }
 
-# Runs a program on the two sheets of the current folder. What it says on standard error comes behind what it prints.
-run_on_sheets() { # PROGRAM
-    site=site.csv steps=steps.csv
-    may_open "$site" || site=/dev/null
-    may_open "$steps" || steps=/dev/null
-    { said=$(run "$1" "$site" "$steps" 2>&1 >&3) || said="$said${said:+
+# Whether there is a standard input at all. Where there is none, whatever is opened next would stand in its place; so that is said
+# here, and the program is given an empty file.
+may_read_input() {
+    (: 3<&0) 2>/dev/null && return
+    say "standard input: Bad file descriptor"
+    status=1
+    return 1
+}
+
+# Runs a program. What it says on standard error comes behind what it prints.
+run_and_say() { # PROGRAM [WORD]..
+    { said=$(run "$@" 2>&1 >&3) || said="$said${said:+
 }the program $1 ended with status $?"; } 3>&1
     [ -n "$said" ] || return 0
     printf '%s\n' "$said" | while IFS= read -r line; do say "$line"; done
     status=1
 }
 
-command_on_folder() { # PROGRAM [FOLDER]
+# Runs a program on the two sheets of the current folder.
+run_on_sheets() { # PROGRAM
+    site=site.csv steps=steps.csv
+    may_open "$site" || site=/dev/null
+    may_open "$steps" || steps=/dev/null
+    run_and_say "$1" "$site" "$steps"
+}
+
+# ---- Commands
+
+help_if_asked() { # PROGRAM [WORD]..
     case ${2-} in -h | --help)
         help
         exit
         ;;
     esac
+}
+
+# Sees to it that a program can be run here and is built.
+make_ready() { # PROGRAM
+    (: 3>&1) 2>/dev/null || fail "standard output is closed"
+    need_processor
+    trap '' PIPE # a write to a pipe that nobody reads fails, and is told as any other
+    crates=$(crates_of "$1")
+    is_built "$1" "$crates" || build "$1" "$crates"
+}
+
+command_on_input() { # PROGRAM
+    help_if_asked "$@"
+    [ $# -le 1 ] || fail "it reads standard input and takes no words; --help says more"
+    may_read_input || exec </dev/null
+    make_ready "$1"
+    run_and_say "$1"
+    exit "$status"
+}
+
+command_on_folder() { # PROGRAM [FOLDER]
+    help_if_asked "$@"
     [ $# -le 2 ] || fail "at most one folder, not $(($# - 1)); --help says more"
     folder=${2-.}
     case $folder in
@@ -142,26 +181,38 @@ command_on_folder() { # PROGRAM [FOLDER]
     ?*) cd "./$folder" ;;
     *) false ;;
     esac 2>/dev/null || fail "there is no folder '$folder' to go into"
-    (: 3>&1) 2>/dev/null || fail "standard output is closed"
-    need_processor
-    trap '' PIPE # a write to a pipe that nobody reads fails, and is told as any other
-    crates=$(crates_of "$1")
-    is_built "$1" "$crates" || build "$1" "$crates"
+    make_ready "$1"
     run_on_sheets "$1"
     exit "$status"
 }
 
-# What is said of all commands by --help.
-help_for_all() {
+# ---- What --help says behind a command's own text
+
+help_on_folder() {
     cat <<'EOF'
 
 A sheet that isn't there or can't be read counts as empty and is named on standard error.
 docs/SHEETS.md says how to type a sheet and what the numbers mean.
+EOF
+    help_for_all "a sheet"
+}
+
+help_on_input() {
+    cat <<'EOF'
+
+Standard input that is closed or can't be read counts as empty, and standard error says so.
+docs/SHEETS.md says what the numbers mean.
+EOF
+    help_for_all "the stream"
+}
+
+help_for_all() { # WHAT-IS-READ
+    cat <<EOF
 
 The program is proved and built by the Rattle kit the first time, and whenever one of its
 sources is newer; standard error then has a line for each crate.
 
-Status: 0 all went well; 1 a sheet couldn't be read or the text couldn't be written, and
+Status: 0 all went well; 1 $1 couldn't be read or the text couldn't be written, and
 standard error says which; 2 the program wasn't run, and standard error says why.
 EOF
 }

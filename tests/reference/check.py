@@ -1,15 +1,43 @@
-"""Holds the reference to what paper 01 prints: its whole run, `where`, and the twelve cases, copied from the paper by hand.
+"""Holds the reference to what paper 01 prints: its whole run, `where`, and the twelve cases, copied from the paper by hand. And to
+what C-11 of 02 says of syslog lines: its example, and what it wants of reading.
 
 Run it from anywhere.
 """
 import sys
 
-from panel import EXPIRED, GREEN, Panel, panel_text, read_site, verdict, where_text
+from panel import EXPIRED, GREEN, Panel, Refused, panel_text, read_site, verdict, where_text
+from syslog_lines import LONGEST_STREAM, events_text, frame, line, read_events_text, read_frame, read_line, write
 
 SITE = ["site,2,3", "door,0,1", "door,1,2", "door,2,1", "door,1,0", "exit,1,0", "exit,2,1", "right,0,1", "right,0,2", "right,1,1"]
 STEPS = ["card,0,0", "decide,0,", "green,0,", "walk,0,", "card,1,0", "decide,1,", "passed,0,", "red,1,", "decide,0,", "card,9,0"]
 PRINTED = ["row,answer,phase,reason", "1,0,1,0", "2,0,2,0", "3,0,3,0", "4,0,4,0", "5,0,1,0", "6,0,6,1", "7,0,9,0", "8,0,7,0",
            "9,12,9,0", "10,11,0,0"]
+
+# 02's example, its octet count, and the denial that goes by the same words.
+EXAMPLE, EXAMPLE_LINE = ("GRANT", 3, 1, 0), b"<86>1 - - - - GRANT - door=3 person=1"
+DENIAL, DENIAL_LINE = ("DENY", 3, 1, 2), b"<85>1 - - - - DENY - door=3 person=1 reason=2"
+# What is no line by 02's words: another number, facility, severity, word, version or field, a needless zero, something more or less.
+NO_LINES = [b"<86>1 - - - - GRANT - door=64 person=1", b"<86>1 - - - - GRANT - door=3 person=64",
+            b"<86>1 - - - - GRANT - door=3 person=1 reason=1", b"<85>1 - - - - DENY - door=3 person=1",
+            b"<85>1 - - - - DENY - door=3 person=1 reason=0", b"<85>1 - - - - DENY - door=3 person=1 reason=4",
+            b"<85>1 - - - - GRANT - door=3 person=1", b"<86>1 - - - - DENY - door=3 person=1 reason=2",
+            b"<14>1 - - - - GRANT - door=3 person=1", b"<086>1 - - - - GRANT - door=3 person=1",
+            b"<86>1 - - - - GRANT - door=03 person=1", b"<86>1 - - - - GRANT - door=3 person=01",
+            b"<86>1 - - - - grant - door=3 person=1", b"<86>1 - - - - OPEN - door=3 person=1",
+            b"<86>2 - - - - GRANT - door=3 person=1", b"<86>1 2003-10-11T22:14:15Z - - - GRANT - door=3 person=1",
+            b"<86>1 - panel - - GRANT - door=3 person=1", b"<86>1 - - panel - GRANT - door=3 person=1",
+            b"<86>1 - - - 1 GRANT - door=3 person=1", b"<86>1 - - - - GRANT [a] door=3 person=1",
+            b"<86>1 - - - - GRANT - person=1 door=3", b"<86>1 - - - - GRANT - door=3  person=1",
+            b"<86>1 - - - - GRANT - door=3 person=1\n", b"<86>1 - - - - GRANT - door=18446744073709551619 person=1"]
+NO_FRAMES = [b"36 " + EXAMPLE_LINE, b"38 " + EXAMPLE_LINE, b"40 " + EXAMPLE_LINE, b"037 " + EXAMPLE_LINE, b"37" + EXAMPLE_LINE,
+             b"37  " + EXAMPLE_LINE, b"18446744073709551653 " + EXAMPLE_LINE, b" " + EXAMPLE_LINE, EXAMPLE_LINE, b"0 ", b"37 ",
+             b"37"]
+# The lines of 01's whole run, counted by hand.
+STREAM = (b"37 <86>1 - - - - GRANT - door=0 person=0"
+          b"45 <85>1 - - - - DENY - door=1 person=0 reason=1"
+          b"36 <86>1 - - - - PASS - door=0 person=0")
+EVENTS = [(msgid, door, person, reason) for door in range(64) for person in range(64)
+          for msgid, reason in (("GRANT", 0), ("DENY", 1), ("DENY", 2), ("DENY", 3), ("PASS", 0), ("LAPSE", 0))]
 
 faults = []
 
@@ -65,9 +93,64 @@ def twelve_cases():
     expect("case 12", site.way_out(2), [1, 0])
 
 
+def answer(read, *given):
+    """What a reader gives back, or the number of its refusal."""
+    try:
+        return read(*given)
+    except Refused as refused:
+        return refused.number
+
+
+def lines_written():
+    for event, text in ((EXAMPLE, EXAMPLE_LINE), (DENIAL, DENIAL_LINE)):
+        expect(f"the line of {event}", line(*event), text)
+        expect(f"{event} in a list of its length", write(line, event, len(text)), (0, text))
+        expect(f"{event} in a list a byte too short", write(line, event, len(text) - 1), (13, b""))
+    expect("the frame of the example", frame(*EXAMPLE), b"37 " + EXAMPLE_LINE)
+    for msgid, text in (("PASS", b"<86>1 - - - - PASS - door=0 person=63"), ("LAPSE", b"<86>1 - - - - LAPSE - door=0 person=63")):
+        expect(f"a line of {msgid}", line(msgid, 0, 63, 0), text)
+    for event in (("GRANT", 64, 0, 0), ("GRANT", 0, 64, 0), ("GRANT", 0, 0, 1), ("DENY", 0, 0, 0), ("DENY", 0, 0, 4), ("LAPSE", 0, 0, 3)):
+        expect(f"{event}, which doesn't fit, in no list", write(line, event, 0), (11, b""))
+
+
+def lines_read():
+    """Each event comes back from its line and its frame, and no two share a line. A line or a frame that is cut is refused."""
+    for event in EVENTS:
+        expect(f"{event} from its line", answer(read_line, line(*event)), event)
+        text = frame(*event)
+        expect(f"{event} from its frame", answer(read_frame, b"-" + text + b"-", 1), (event, 1 + len(text)))
+    expect("the lines of all events that fit", len({line(*event) for event in EVENTS}), len(EVENTS))
+    for text in NO_LINES:
+        expect(f"the line {text}", answer(read_line, text), 15)
+    for text in NO_FRAMES + [b"%d %s" % (len(text), text) for text in NO_LINES]:
+        expect(f"the frame {text}", answer(read_frame, text, 0), 15)
+    for text in (EXAMPLE_LINE, DENIAL_LINE):
+        for cut in range(len(text)):
+            expect(f"the first {cut} bytes of a line", answer(read_line, text[:cut]), 15)
+            expect(f"a line without its first {cut + 1} bytes", answer(read_line, text[cut + 1:]), 15)
+
+
+def streams_read():
+    expect("the stream of the whole run", events_text(site_sheet(), sheet("step,door,person", STEPS)), STREAM)
+    expect("the stream of a refused site", events_text(b"", sheet("step,door,person", STEPS)), b"")
+    header, rows = "answer,event,door,person,reason\r\n", ["0,GRANT,0,0,0\r\n", "0,DENY,1,0,1\r\n", "0,PASS,0,0,0\r\n"]
+    ends = [0, 40, 88, len(STREAM)]
+    for cut in range(len(STREAM) + 1):
+        whole = sum(end <= cut for end in ends) - 1
+        last = [] if cut in ends else ["15,,0,0,0\r\n"]
+        expect(f"the first {cut} bytes of a stream", read_events_text(STREAM[:cut]), "".join([header] + rows[:whole] + last).encode())
+    expect("the end of a stream", answer(read_frame, STREAM, len(STREAM)), None)
+    expect("a place past the end", answer(read_frame, STREAM, len(STREAM) + 1), 15)
+    for text, number in ((b"1" * LONGEST_STREAM, 15), (b"1" * (LONGEST_STREAM + 1), 1)):
+        expect(f"a stream of {len(text)} bytes", read_events_text(text), f"{header}{number},,0,0,0\r\n".encode())
+
+
 whole_run()
 twelve_cases()
+lines_written()
+lines_read()
+streams_read()
 for fault in faults:
     print("reference:", fault)
-print(f"reference: the paper's run and its 12 cases, {len(faults)} faults")
+print(f"reference: the paper's run, its 12 cases and the syslog lines, {len(faults)} faults")
 sys.exit(1 if faults else 0)

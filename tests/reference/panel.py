@@ -2,7 +2,7 @@
 
 It imports nothing of the project and shares no text with it. `read_site` and `verdict` are the section "Site sheet" with
 "Numbers given back", `Panel` the sections "The record" and "Steps", `panel_text` and `where_text` the section "Program and one
-whole run".
+whole run". `events_of` has the grants, denials, passages and lapses of a run, for which C-11 of 02 wants lines.
 """
 
 LONGEST_SHEET = 49152
@@ -168,7 +168,8 @@ def verdict(sheet):
 
 
 class Panel:
-    """The record of an accepted site, fresh at first, and its steps and questions."""
+    """The record of an accepted site, fresh at first, its steps and questions, and the events of the steps that were done: for
+    each the word that 02 has for it, the door, the person whose card was taken there, and the reason of a denial, else 0."""
 
     def __init__(self, site):
         self.site = site
@@ -176,6 +177,7 @@ class Panel:
         self.phase = [FREE] * len(site.doors)
         self.holds = [0] * len(site.doors)
         self.countdown = [0] * len(site.doors)
+        self.events = []
 
     def put(self, door, phase, person=0, countdown=0):
         self.phase[door], self.holds[door], self.countdown[door] = phase, person, countdown
@@ -210,6 +212,7 @@ class Panel:
         elif name == "decide" and phase == READ:
             reason = self.reason(door, held)
             self.put(door, DENIED if reason else GRANTED, 0 if reason else held)
+            self.events.append(("DENY" if reason else "GRANT", door, held, reason))
         elif name == "green" and phase in (GRANTED, GREEN):
             self.put(door, GREEN, held, GREEN_TICKS)
         elif name == "red" and phase in (DENIED, RED):
@@ -219,7 +222,11 @@ class Panel:
         elif name == "passed" and phase == WALKED:
             self.place[held] = self.site.doors[door][1]
             self.put(door, CLOSED)
-        elif name == "lapsed" and phase == EXPIRED or name == "dark" and phase == DIMMED:
+            self.events.append(("PASS", door, held, 0))
+        elif name == "lapsed" and phase == EXPIRED:
+            self.put(door, CLOSED)
+            self.events.append(("LAPSE", door, held, 0))
+        elif name == "dark" and phase == DIMMED:
             self.put(door, CLOSED)
         elif name == "ack" and phase == CLOSED:
             self.put(door, FREE)
@@ -253,6 +260,14 @@ def serve(site, steps):
             return printed + [(row, 2, 0, 0)], panel
         printed.append((row, *panel.step(*step)))
     return (printed if row >= 0 else [(0, 2, 0, 0)]), panel
+
+
+def events_of(site_sheet, steps_sheet):
+    """The events of a run, in the order of its rows; none where a sheet is refused."""
+    try:
+        return serve(read_site(site_sheet), steps_sheet)[1].events
+    except Refused:
+        return []
 
 
 def text(header, lines):

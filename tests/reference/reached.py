@@ -1,7 +1,7 @@
-"""What the cases of `vectors` have to reach, said from paper 01 alone, and what a case reaches by the reference.
+"""What the cases of `vectors` have to reach, said from papers 01 and 02 alone, and what a case reaches by the reference.
 
-What is reached is a sentence: what a site sheet is told and where, how a steps sheet ends, or what a step is answered. `wanted`
-has all such that 01 allows, so a case that reaches anything else is a fault too.
+What is reached is a sentence: what a site sheet is told and where, how a steps sheet ends, what a step is answered, or which event
+there is at which door and of whom. `wanted` has all such that the papers allow, so a case that reaches anything else is a fault too.
 """
 from panel import (CLOSED, DENIED, DIMMED, EXPIRED, FREE, GRANTED, GREEN, LONGEST_SHEET, READ, RED, STEPS, WALKED, Panel, Refused,
                    read_site, rows, step_of)
@@ -53,7 +53,11 @@ def put_out(phase):
     return f"a light in phase {phase} that was set again and then burned its span"
 
 
-# ---- What 01 allows
+def happened(word, what, number):
+    return f"a {word} of a {what} of {len(str(number))} digits"
+
+
+# ---- What the papers allow
 
 def wanted_of_sites():
     yield from (site_told(number, FIRST_PLACES.get(number, 0)) for number in range(11))
@@ -67,6 +71,8 @@ def wanted_of_steps():
     yield from (sized("steps", length) for length in LIMITS)
     yield from (denied_for(phase) for phase in (GRANTED, GREEN, WALKED, EXPIRED))
     yield from (put_out(phase) for phase in (GREEN, RED))
+    words = ("GRANT", "DENY", "PASS", "LAPSE")
+    yield from (happened(word, what, number) for word in words for what in ("door", "person") for number in (9, 10))
     yield from (answered(name, "at no door", 11, 0, 0) for name in STEPS)
     for phase in range(10):
         yield answered("card", in_phase(phase), 11, 0, 0)
@@ -89,7 +95,7 @@ def reached_by_step(panel, again, name, door, person):
     if door >= len(panel.phase):
         yield answered(name, "at no door", *panel.step(name, door, person))
         return
-    before, held = panel.phase[door], panel.holds[door]
+    before, held, events = panel.phase[door], panel.holds[door], len(panel.events)
     answer, after, reason = panel.step(name, door, person)
     yield answered(name, in_phase(before), answer, after, reason)
     if reason == 3:
@@ -98,6 +104,9 @@ def reached_by_step(panel, again, name, door, person):
         (again.add if before == after else again.discard)(door)
     if (before, after) in ((GREEN, EXPIRED), (RED, DIMMED)) and door in again:
         yield put_out(before)
+    for word, at, whose, _ in panel.events[events:]:
+        yield happened(word, "door", at)
+        yield happened(word, "person", whose)
 
 
 def reached_by_steps(site, sheet):

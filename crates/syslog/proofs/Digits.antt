@@ -73,7 +73,7 @@ pub data Stops : List ℕ → Type 0 where
   at-end : Stops []
   at-byte : {b : ℕ} {bs : List ℕ} → isDigit b ≡ false → Stops (b ∷ bs)
 
-stopped : (more n : ℕ) {t : List ℕ} → Stops t → numberOn more n t ≡ n
+pub stopped : (more n : ℕ) {t : List ℕ} → Stops t → numberOn more n t ≡ n
 unfolding numberOn
 stopped zero n s = refl
 stopped (suc more) n at-end = refl

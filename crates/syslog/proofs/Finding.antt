@@ -30,8 +30,8 @@ use Rattle.syslog.proofs.Guessing.{guess-line, guess-frame}
 line-guess : {text : List ℕ} {e : Event} → LineIs text e → guessOf text ≡ e
 line-guess {text} {e} l = ap guessOf (l .is) ∙ guess-line e (l .fits)
 
-pub line-found : {text : List ℕ} → fitsLine (guessOf text) ≡ true → text ≡ lineOf (guessOf text) → ReadsLine text (line.Is (guessOf text))
-line-found {text} f is = record { fits = fits-tells (guessOf text) .yes f; is = is }
+pub line-found : {text : List ℕ} {e : Event} → fitsLine e ≡ true → text ≡ lineOf e → ReadsLine text (line.Is e)
+line-found {e = e} f is = record { fits = fits-tells e .yes f; is = is }
 
 pub line-unfit : {text : List ℕ} → fitsLine (guessOf text) ≡ false → ReadsLine text line.NotOurs
 line-unfit {text} f e l = clash (fits-tells (guessOf text) .back (subst Fits (sym (line-guess l)) (l .fits))) f
@@ -109,19 +109,22 @@ module _ (s : List ℕ) (at : ℕ) (in-it : at < length s) where
     pub frame-other : (text ≡ framedOf (guessOf text) → ⊥) → ReadsFrame s at frame.NotOurs
     frame-other ne = (not-end, λ e next x. ne (frame-text x ∙ ap framedOf (sym (frame-guess x))))
 
-    pub frame-found : fitsLine (guessOf text) ≡ true → text ≡ framedOf (guessOf text)
-        → ReadsFrame s at (frame.Frame (guessOf text) (at + frameSize (drop at s)))
-    frame-found f is =
+    pub frame-found : {e : Event} → fitsLine e ≡ true → text ≡ framedOf e → ReadsFrame s at (frame.Frame e (at + frameSize (drop at s)))
+    frame-found {e} f is =
         let size : length text ≡ frameSize (drop at s) = length-take-le (frameSize (drop at s)) (drop at s) room in
-        let there : drop at s ≡ framedOf (guessOf text) ++ drop (frameSize (drop at s)) (drop at s) = sym (take-append-drop (frameSize (drop at s)) (drop at s)) ∙ ap (λ (t : List ℕ). t ++ drop (frameSize (drop at s)) (drop at s)) is in
+        let there : drop at s ≡ framedOf e ++ drop (frameSize (drop at s)) (drop at s) = sym (take-append-drop (frameSize (drop at s)) (drop at s)) ∙ ap (λ (t : List ℕ). t ++ drop (frameSize (drop at s)) (drop at s)) is in
         record {
-          fits = fits-tells (guessOf text) .yes f;
+          fits = fits-tells e .yes f;
           front = take at s;
           rest = drop (frameSize (drop at s)) (drop at s);
           split = sym (take-append-drop at s) ∙ ap (λ (t : List ℕ). take at s ++ t) there;
           place = sym (length-take-le at s (omega arith));
           behind-it = ap (λ (n : ℕ). at + n) (sym size ∙ ap length is);
         }
+
+-- past the end there is no frame
+pub frame-past : {s : List ℕ} {at : ℕ} → length s < at → ReadsFrame s at frame.NotOurs
+frame-past h = (λ e. omega arith, λ e next x. let o = frame-onward x in omega (arith, o .0, o .1))
 
 -- ---- every list of bytes reads as something
 

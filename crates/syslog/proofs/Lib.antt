@@ -6,6 +6,7 @@ pub mod Lengths
 pub mod Guessing
 pub mod Finding
 pub mod Streams
+pub mod Loops
 pub mod Message
 pub mod Written
 pub mod Theorems

@@ -11,6 +11,8 @@ use borrow.Author.Tests.{leb-true}
 use lib.Seq.{sets, sets-eq, take-append-seam}
 use Rattle.findings.specs.declared.Printed.{Printed}
 use Rattle.findings.specs.declared.Printed.the-variants as printed
+use Rattle.tables.specs.Below.{Tells}
+use Rattle.text.specs.Wrote.{lastPlace, behind, Wrote}
 use Rattle.text.specs.Printed.{fitsIn, printedOf, written, Prints}
 use Rattle.syslog.specs.declared.Event.{Event}
 use Rattle.syslog.specs.declared.LineWritten.{LineWritten}
@@ -34,6 +36,19 @@ writes-printed {e} {text} {out} {after} {told} f p = record { answer = rw f (ap 
     go : (b : Bool) → asLine (cond b (printed.Text (length text)) printed.TooShort) ≡ cond b (Text (length text)) TooShort
     go true = refl
     go false = refl
+
+-- a text that was written into the front of a list of one's own, and compared
+pub own-text : {text own after : List ℕ} {end : ℕ} → Wrote own 0 text after end → length text ≤ length own → length own ≤ lastPlace
+    → (end ≡ length text) × (take end after ≡ text)
+unfolding behind
+own-text {text} {own} {after} {end} w room few =
+    let place : end ≡ behind 0 (length text) = w .place in
+    let size : end ≡ length text = omega arith in
+    (size, rw (size, w .list, sets-eq text own 0 (omega arith)) (take-append-seam text _))
+
+pub own-tells : {text other front : List ℕ} {same : Bool} → front ≡ text → (same ≡ true → other ≡ front) → (other ≡ front → same ≡ true)
+    → Tells same (other ≡ text)
+own-tells is same-so so-same = record { yes = λ e. same-so e ∙ is; back = λ e. so-same (e ∙ sym is) }
 
 -- ---- what was written, at the list's front
 

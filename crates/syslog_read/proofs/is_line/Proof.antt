@@ -1,0 +1,44 @@
+-- `is_line` meets its contract: the event's own text is written and compared. Assumes nothing.
+use Prim.Native.Nat.{_≤_}
+use mathlib.Core.Path.{_≡_, sym}
+use native.Mathlib.Omega.{arith}
+use lib.ListN.{length}
+use lib.Seq.{length-take-le}
+use Rattle.syslog.proofs.Fit.{fits-tells}
+use Rattle.syslog.proofs.Lengths.{line-short}
+use Rattle.syslog.proofs.Written.{own-text, own-tells}
+use borrow.Author.Needs.{needs}
+use Rattle.syslog_read.proofs.is_line.Statement.{statement}
+use Rattle.syslog_read.proofs.is_line.Tie as tie
+
+slice-aggregate-put-line : tie.Need-slice-aggregate-put-line
+slice-aggregate-put-line c = search needs
+
+put-line-requires : tie.Need-put-line-requires
+put-line-requires c κs = search needs
+
+array-share-prefix-own : tie.Need-array-share-prefix-own
+array-share-prefix-own c =
+    let few = line-short _ (fits-tells (c .before .before .before .before .args .event) .yes (c .before .before .before .before .pre)) in
+    let own = own-text (c .before .put-line .ensures) (omega arith) (omega arith) in
+    omega (arith, own .0)
+
+slice-aggregate-same : tie.Need-slice-aggregate-same
+slice-aggregate-same c =
+    let few = line-short _ (fits-tells (c .before .before .before .before .before .args .event) .yes (c .before .before .before .before .before .pre)) in
+    let own = own-text (c .before .before .put-line .ensures) (omega arith) (omega arith) in
+    sym (length-take-le _ _ (omega (arith, own .0)))
+
+same-requires : tie.Need-same-requires
+same-requires c κs = search needs
+
+returns : tie.Need-returns
+returns c =
+    let few = line-short _ (fits-tells (c .before .before .before .before .before .before .args .event) .yes (c .before .before .before .before .before .before .pre)) in
+    let own = own-text (c .before .before .before .put-line .ensures) (omega arith) (omega arith) in
+    own-tells (own .1) (c .same .ensures .0) (c .same .ensures .1)
+
+pub is-line-spec : {M : Type 1} → statement M
+is-line-spec =
+    tie.close
+    (tie.spec slice-aggregate-put-line put-line-requires array-share-prefix-own slice-aggregate-same same-requires returns)
