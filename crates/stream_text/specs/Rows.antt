@@ -48,7 +48,7 @@ decidedEvent phase reason d p = lineEvent (event 0 d p (cond (eqb phase granted)
 unfoldable pub toldText : Kind → ℕ → ℕ → ℕ → ℕ → ℕ → List ℕ
 toldText kind answer phase reason d p = streamOf (map lineEvent (eventBy (meaningOf (lineWith kind d 0 answer phase reason)) 0 d p))
 
--- whose card is at the door after a step with this person: "a `card` .. taken", "`ack`: 9 to 0"
+-- whose card is at the door after a step with this person was done: a `card` is taken, an `ack` frees the door
 abbrev pub cardBy : Kind → ℕ → ℕ → ℕ
 cardBy Card person was = person
 cardBy Ack person was = 0
