@@ -32,14 +32,14 @@ use Rattle.steps_sheet.specs.declared.Heading.{Heading}
 use Rattle.steps_sheet.specs.declared.Heading.the-variants.{TooLong, Wrong, Rows}
 use Rattle.steps_sheet.specs.Steps.{headingOf}
 use Rattle.run_events.specs.Lines.{heardOf}
-use Rattle.run_events.specs.Events.{Grant, Denial, RunEvent, event, Spell, noSpells, eventsOf}
+use Rattle.run_events.specs.Events.{What, Grant, Denial, Passage, Lapse, RunEvent, event, Spell, noSpells, eventsOf}
 use Rattle.run_events.specs.Told.{Agree, whatBy, seenOf, eventsSeen}
 use Rattle.run_events.proofs.Steps.{not-done}
 use Rattle.run_events.proofs.Theorems.{all-seen, fresh-agree}
 use Rattle.card_by_card.specs.Served.{Fresh}
 use Rattle.run_text.proofs.Sheets.{zero-accepted}
-use Rattle.syslog.specs.Line.{AllFit, no-more, fits, mostNumber}
-use Rattle.stream_text.specs.Stream.{lineEvent, linesIn, stepsEvents, sheetEvents}
+use Rattle.syslog.specs.Line.{mostNumber, ReasonFits, Fits, AllFit, no-more, fits}
+use Rattle.stream_text.specs.Stream.{msgidOf, reasonOf, lineEvent, linesIn, stepsEvents, sheetEvents}
 use Rattle.stream_text.proofs.Sheets.{lines-are, long-none, wrong-none}
 
 -- ---- one step
@@ -51,19 +51,20 @@ reason-small (barred _ _) = omega arith
 reason-small (busy _ _ _ _) = omega arith
 
 module _ (n d p why : ℕ) (hd : d ≤ mostNumber) (hp : p ≤ mostNumber) (hw : why ≤ 3) where
+  one-fits : (w : What) → ReasonFits (msgidOf w) (reasonOf w) → Fits (lineEvent (event n d p w))
+  unfolding lineEvent
+  one-fits w h = record { door = omega arith; person = omega arith; reason = h }
+
   -- what a step that is done does to the card at its door
   what-fits : (k : Kind) → AllFit (map lineEvent (map (event n d p) (whatBy k why)))
-  unfolding whatBy lineEvent
+  unfolding whatBy
   what-fits Decide = go (eqb why 0) refl
     where
       go : (t : Bool) → eqb why 0 ≡ t → AllFit (map lineEvent (map (event n d p) (cond t Grant (Denial why) ∷ [])))
-      go true e = fits (record { door = hd; person = hp; reason = refl }) no-more
-      go false e =
-          let ne = eqb-false why 0 e in
-          let reason : (1 ≤ why) × (why ≤ 3) = (omega arith, hw) in
-          fits (record { door = hd; person = hp; reason = reason }) no-more
-  what-fits Passed = fits (record { door = hd; person = hp; reason = refl }) no-more
-  what-fits Lapsed = fits (record { door = hd; person = hp; reason = refl }) no-more
+      go true e = fits (one-fits Grant refl) no-more
+      go false e = let ne = eqb-false why 0 e in fits (one-fits (Denial why) (omega arith, omega arith)) no-more
+  what-fits Passed = fits (one-fits Passage refl) no-more
+  what-fits Lapsed = fits (one-fits Lapse refl) no-more
   what-fits Card = no-more
   what-fits Green = no-more
   what-fits Red = no-more
