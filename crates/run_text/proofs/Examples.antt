@@ -60,13 +60,13 @@ sound-last (row ∷ rows) r sh s =
     sound-last rows _ (shaped-stays r (row .kind) (row .at) (row .person) sh) (sound-stays r (row .kind) (row .at) (row .person) sh s)
     ∙ ap (λ (x : Step). soundLast (x .next) rows) (sound-steps r (row .kind) (row .at) (row .person) sh s)
 
-soundReplies : Record → List StepRow → List Reply
+unfoldable pub soundReplies : Record → List StepRow → List Reply
 soundReplies r [] = []
 soundReplies r (row ∷ rows) =
     let s = soundStep r (row .kind) (row .at) (row .person) in
     replyBy s ∷ soundReplies (s .next) rows
 
-sound-replies : (rows : List StepRow) (r : Record) → Shaped r → Sound r → repliesOf r rows ≡ soundReplies r rows
+pub sound-replies : (rows : List StepRow) (r : Record) → Shaped r → Sound r → repliesOf r rows ≡ soundReplies r rows
 unfolding repliesOf soundReplies
 sound-replies [] r sh s = refl
 sound-replies (row ∷ rows) r sh s =
@@ -83,14 +83,14 @@ site-of-01 =
     (plan 2 3 4 (0 ∷ 1 ∷ 2 ∷ 1 ∷ replicate (mostDoors - 4) 0) (1 ∷ 2 ∷ 1 ∷ 0 ∷ replicate (mostDoors - 4) 0) (0 ∷ 0 ∷ 1 ∷ replicate (mostLocations - 3) 0))
     (set (set (set (replicate (mostPeople * mostLocations) false) 1 true) 2 true) (mostLocations + 1) true)
 
-sites : (siteOf siteSheet ≡ record { verdict = Accepted; «record» = site-of-01 }) × (siteOf siteHeader ≡ refusedSite NoSite)
+pub sites : (siteOf siteSheet ≡ record { verdict = Accepted; «record» = site-of-01 }) × (siteOf siteHeader ≡ refusedSite NoSite)
 unfolding bareMove shutMove moveOf endOf fieldFrom pushed rowFrom cutRow readRows rowsFrom valueFrom digitsFrom needlessZero numberIn contentAt sameBytes isWord saysWords numberAt orAt leastBelow withLocation locationOf leastPair someBelow orElse andAlso mayBe lacksExit firstNoExit strays firstStray joins lacksDoor firstNoDoor lacksRight firstNoRight letsIn shutOut firstShutOut unlessOutside wayOut unvisited wayOf unmarked siteRowFits takeSite doorRowFits takeDoor exitRowFits takeExit rightRowFits takeRight takeLine placeIn placeAmong namedFrom site.wordNamed site.siteLineAt site.siteHeaderAt linesIn readLines judgedDraft settled afterHeader siteAt zeros
 sites = (refl, refl)
 
-abbrev step : Kind → ℕ → StepRow
+abbrev pub step : Kind → ℕ → StepRow
 step kind door = record { kind = kind; at = door; person = 0 }
 
-stepsOf01 : Steps
+unfoldable pub stepsOf01 : Steps
 stepsOf01 =
     record {
       rows =
@@ -100,14 +100,14 @@ stepsOf01 =
     }
 
 -- one card, and then a row of bad form
-oneCard : Steps
+unfoldable pub oneCard : Steps
 oneCard = record { rows = step Card 0 ∷ []; whole = false }
 
-headings : (headingOf stepsSheet ≡ Rows 18) × (headingOf badRow ≡ Rows 18) × (headingOf [] ≡ Wrong)
+pub headings : (headingOf stepsSheet ≡ Rows 18) × (headingOf badRow ≡ Rows 18) × (headingOf [] ≡ Wrong)
 unfolding bareMove shutMove moveOf endOf pushed rowFrom cutRow contentAt sameBytes isWord saysWords stepsHeaderAt headingAt
 headings = (refl, refl, refl)
 
-steps : (stepsFrom stepsSheet 18 ≡ stepsOf01) × (stepsFrom badRow 18 ≡ oneCard)
+pub steps : (stepsFrom stepsSheet 18 ≡ stepsOf01) × (stepsFrom badRow 18 ≡ oneCard)
 unfolding bareMove shutMove moveOf endOf pushed rowFrom cutRow readRows rowsFrom valueFrom digitsFrom needlessZero numberIn contentAt sameBytes isWord numberAt placeIn placeAmong namedFrom kindOf personAt stepsLineAt stepsIn stepsOf01 oneCard
 steps = (refl, refl)
 
@@ -116,10 +116,10 @@ steps = (refl, refl)
 accepted : AcceptedRecord limit siteSheet
 accepted = accepted-holds limit siteSheet (ap (λ (x : SiteRead). x .verdict) (sites .0))
 
-shaped : Shaped site-of-01
+pub shaped : Shaped site-of-01
 shaped = subst (λ (x : SiteRead). Shaped (x .«record»)) (sites .0) (accepted .shaped)
 
-sound : Sound site-of-01
+pub sound : Sound site-of-01
 sound = subst (λ (x : SiteRead). Sound (x .«record»)) (sites .0) (accepted .sound)
 
 panel-here : (s : List ℕ) {h : Heading} → headingOf s ≡ h → panelText siteSheet s ≡ stepsText site-of-01 s h
@@ -149,7 +149,7 @@ alone : (aloneText 2 ≡ panelTop (four 0 2 0 0 [])) × (aloneText 5 ≡ panelTo
 unfolding aloneText placeRows placesText rowOfNumbers decimal digits zeros
 alone = (refl, refl, refl, refl)
 
-refused : _≡_ {A = ℕ} 5 0 → ⊥
+pub refused : _≡_ {A = ℕ} 5 0 → ⊥
 refused e = omega arith
 
 pub examples : Examples

@@ -37,7 +37,7 @@ map-length f [] = refl
 map-length f (x ∷ xs) = ap suc (map-length f xs)
 
 -- the three lists are the steps again
-rows-back : (rows : List StepRow) → rowsOf (map kindColumn rows) (map doorColumn rows) (map personColumn rows) ≡ rows
+pub rows-back : (rows : List StepRow) → rowsOf (map kindColumn rows) (map doorColumn rows) (map personColumn rows) ≡ rows
 unfolding rowsOf
 rows-back [] = refl
 rows-back (row ∷ rows) = rw (rows-back rows, kind-back (row .kind))

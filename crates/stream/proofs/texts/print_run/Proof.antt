@@ -1,0 +1,112 @@
+-- `print_run` meets its contract: the steps are run, and their events printed. Assumes nothing.
+use mathlib.Core.Path.{_≡_, sym}
+use native.Mathlib.Omega.{arith}
+use lib.ListN.{length}
+use lib.Seq.{length-take-le}
+use Rattle.record.specs.Doors.{Shaped}
+use Rattle.steps_sheet.specs.Lent.{mostSteps}
+use Rattle.text.proofs.Printing.{text-is}
+use Rattle.stream_text.proofs.Sheets.{run-heard}
+use borrow.Author.Needs.{needs}
+use Rattle.stream.proofs.texts.print_run.Statement.{statement}
+use Rattle.stream.proofs.texts.print_run.Tie as tie
+
+-- the lists of the record that is taken are as long as their arrays
+shaped : (c : tie.Start) → Shaped (c .args .fresh)
+shaped c = search needs
+
+blank-bytes-requires : tie.Need-blank-bytes-requires
+blank-bytes-requires c κs = search needs
+
+blank-bytes-requires-2 : tie.Need-blank-bytes-requires-2
+blank-bytes-requires-2 c κs = search needs
+
+blank-bytes-requires-3 : tie.Need-blank-bytes-requires-3
+blank-bytes-requires-3 c κs = search needs
+
+slice-aggregate-run : tie.Need-slice-aggregate-run
+slice-aggregate-run c = search needs
+
+slice-aggregate-run-2 : tie.Need-slice-aggregate-run-2
+slice-aggregate-run-2 c = search needs
+
+slice-aggregate-run-3 : tie.Need-slice-aggregate-run-3
+slice-aggregate-run-3 c = search needs
+
+run-requires : tie.Need-run-requires
+run-requires c κs = search needs
+
+array-share-prefix-answers : tie.Need-array-share-prefix-answers
+array-share-prefix-answers c = search needs
+
+slice-aggregate-print-events : tie.Need-slice-aggregate-print-events
+slice-aggregate-print-events c =
+    let few = c .before .before .before .before .before .before .before .before .before .before .before .before .before .before .before .pre .1 .0 in
+    let long : mostSteps ≡ length (c .before .before .before .before .run .last .1 .1 .1 .1 .0) = search needs in
+    sym (length-take-le _ _ (omega arith))
+
+array-share-prefix-phases : tie.Need-array-share-prefix-phases
+array-share-prefix-phases c = search needs
+
+slice-aggregate-print-events-2 : tie.Need-slice-aggregate-print-events-2
+slice-aggregate-print-events-2 c =
+    let few = c .before .before .before .before .before .before .before .before .before .before .before .before .before .before .before .before .pre .1 .0 in
+    let long : mostSteps ≡ length (c .before .before .before .before .before .run .last .1 .1 .1 .1 .1 .0) = search needs in
+    sym (length-take-le _ _ (omega arith))
+
+array-share-prefix-reasons : tie.Need-array-share-prefix-reasons
+array-share-prefix-reasons c = search needs
+
+slice-aggregate-print-events-3 : tie.Need-slice-aggregate-print-events-3
+slice-aggregate-print-events-3 c =
+    let few = c .before .before .before .before .before .before .before .before .before .before .before .before .before .before .before .before .before .pre .1 .0 in
+    let long : mostSteps ≡ length (c .before .before .before .before .before .before .run .last .1 .1 .1 .1 .1 .1 .0) = search needs in
+    sym (length-take-le _ _ (omega arith))
+
+print-events-requires : tie.Need-print-events-requires
+print-events-requires c κs =
+    let a = c .before .before .before .before .before .before .before .before .before .before .before .before .before .before .before .before .before .before .args in
+    let pre = c .before .before .before .before .before .before .before .before .before .before .before .before .before .before .before .before .before .before .pre in
+    let few = pre .1 .0 in
+    let in-answers = c .before .before .before .before .before .before .before .before .before .before .before .before .before .blank-bytes in
+    let in-phases = c .before .before .before .before .before .before .before .before .before .before .before .before .blank-bytes2 in
+    let in-reasons = c .before .before .before .before .before .before .before .before .before .before .before .blank-bytes3 in
+    let e = c .before .before .before .before .before .before .before .run .ensures in
+    let so = run-heard (a .fresh) (a .kinds .now) (a .doors .now) (a .persons .now) (pre .1 .1) (pre .1 .2) (shaped (c .before .before .before .before .before .before .before .before .before .before .before .before .before .before .before .before .before .before)) (pre .0) (in-answers .result) (in-phases .result) (in-reasons .result) (omega (arith, few, in-answers .ensures)) (omega (arith, few, in-phases .ensures)) (omega (arith, few, in-reasons .ensures)) (e .1 .0) (e .1 .1 .0) (e .1 .1 .1) in
+    so .heard
+
+same-length : tie.Need-same-length
+same-length c = search needs
+
+returns : tie.Need-returns
+returns c =
+    let a = c .before .before .before .before .before .before .before .before .before .before .before .before .before .before .before .before .before .before .before .before .before .args in
+    let pre = c .before .before .before .before .before .before .before .before .before .before .before .before .before .before .before .before .before .before .before .before .before .pre in
+    let few = pre .1 .0 in
+    let in-answers = c .before .before .before .before .before .before .before .before .before .before .before .before .before .before .before .before .blank-bytes in
+    let in-phases = c .before .before .before .before .before .before .before .before .before .before .before .before .before .before .before .blank-bytes2 in
+    let in-reasons = c .before .before .before .before .before .before .before .before .before .before .before .before .before .before .blank-bytes3 in
+    let e = c .before .before .before .before .before .before .before .before .before .before .run .ensures in
+    let so = run-heard (a .fresh) (a .kinds .now) (a .doors .now) (a .persons .now) (pre .1 .1) (pre .1 .2) (shaped (c .before .before .before .before .before .before .before .before .before .before .before .before .before .before .before .before .before .before .before .before .before)) (pre .0) (in-answers .result) (in-phases .result) (in-reasons .result) (omega (arith, few, in-answers .ensures)) (omega (arith, few, in-phases .ensures)) (omega (arith, few, in-reasons .ensures)) (e .1 .0) (e .1 .1 .0) (e .1 .1 .1) in
+    text-is _ _ (a .out .now) (so .stream) (c .before .before .print-events .ensures)
+
+pub print-run-spec : {M : Type 1} → statement M
+print-run-spec =
+    tie.close
+    (tie.spec
+    blank-bytes-requires
+    blank-bytes-requires-2
+    blank-bytes-requires-3
+    slice-aggregate-run
+    slice-aggregate-run-2
+    slice-aggregate-run-3
+    run-requires
+    array-share-prefix-answers
+    slice-aggregate-print-events
+    array-share-prefix-phases
+    slice-aggregate-print-events-2
+    array-share-prefix-reasons
+    slice-aggregate-print-events-3
+    print-events-requires
+    same-length
+    returns)

@@ -1,0 +1,143 @@
+-- `print_steps` meets its contract: what was decoded is run and printed. Assumes nothing.
+use Prim.Native.Nat.{_≤_}
+use mathlib.Core.Path.{_≡_, sym, ap, _∙_}
+use mathlib.Core.List.{List}
+use native.Mathlib.Omega.{arith}
+use lib.ListN.{length}
+use lib.Seq.{length-take-le}
+use Rattle.phases.specs.Kinds.{StepRow}
+use Rattle.steps_sheet.specs.Steps.{stepsFrom}
+use Rattle.steps_sheet.specs.Lent.{mostSteps}
+use Rattle.steps_sheet.proofs.Theorems.{few-counted}
+use Rattle.run_text.proofs.Serving.{room-most, decoded-are}
+use Rattle.text.proofs.Printing.{text-is}
+use Rattle.syslog.specs.Line.{streamOf}
+use Rattle.stream_text.specs.Stream.{linesIn}
+use Rattle.stream_text.proofs.Sheets.{decoded-rows}
+use borrow.Author.Needs.{needs}
+use Rattle.stream.proofs.texts.print_steps.Statement.{statement}
+use Rattle.stream.proofs.texts.print_steps.Tie as tie
+
+blank-bytes-requires : tie.Need-blank-bytes-requires
+blank-bytes-requires c κs = search needs
+
+blank-numbers-requires : tie.Need-blank-numbers-requires
+blank-numbers-requires c κs = search needs
+
+blank-numbers-requires-2 : tie.Need-blank-numbers-requires-2
+blank-numbers-requires-2 c κs = search needs
+
+slice-aggregate-decode : tie.Need-slice-aggregate-decode
+slice-aggregate-decode c = search needs
+
+slice-aggregate-decode-2 : tie.Need-slice-aggregate-decode-2
+slice-aggregate-decode-2 c = search needs
+
+slice-aggregate-decode-3 : tie.Need-slice-aggregate-decode-3
+slice-aggregate-decode-3 c = search needs
+
+decode-requires : tie.Need-decode-requires
+decode-requires c κs = search needs
+
+array-share-prefix-kinds : tie.Need-array-share-prefix-kinds
+array-share-prefix-kinds c =
+    let a = c .before .before .before .before .before .before .before .before .before .before .before .before .args in
+    let few = few-counted (a .s .now) (a .from) _ (c .before .before .before .decode .ensures .0) in
+    let short = c .before .before .before .before .before .before .before .before .before .before .before .before .pre .1 in
+    search needs
+
+slice-aggregate-print-run : tie.Need-slice-aggregate-print-run
+slice-aggregate-print-run c =
+    let a = c .before .before .before .before .before .before .before .before .before .before .before .before .before .args in
+    let few = few-counted (a .s .now) (a .from) _ (c .before .before .before .before .decode .ensures .0) in
+    let short = c .before .before .before .before .before .before .before .before .before .before .before .before .before .pre .1 in
+    let long : mostSteps ≡ length (c .before .before .before .before .decode .last .1 .1 .0) = search needs in
+    sym (length-take-le _ _ (omega arith))
+
+array-share-prefix-doors : tie.Need-array-share-prefix-doors
+array-share-prefix-doors c =
+    let a = c .before .before .before .before .before .before .before .before .before .before .before .before .before .args in
+    let few = few-counted (a .s .now) (a .from) _ (c .before .before .before .before .decode .ensures .0) in
+    let short = c .before .before .before .before .before .before .before .before .before .before .before .before .before .pre .1 in
+    search needs
+
+slice-aggregate-print-run-2 : tie.Need-slice-aggregate-print-run-2
+slice-aggregate-print-run-2 c =
+    let a = c .before .before .before .before .before .before .before .before .before .before .before .before .before .before .args in
+    let few = few-counted (a .s .now) (a .from) _ (c .before .before .before .before .before .decode .ensures .0) in
+    let short = c .before .before .before .before .before .before .before .before .before .before .before .before .before .before .pre .1 in
+    let long : mostSteps ≡ length (c .before .before .before .before .before .decode .last .1 .1 .1 .0) = search needs in
+    sym (length-take-le _ _ (omega arith))
+
+array-share-prefix-persons : tie.Need-array-share-prefix-persons
+array-share-prefix-persons c =
+    let a = c .before .before .before .before .before .before .before .before .before .before .before .before .before .before .args in
+    let few = few-counted (a .s .now) (a .from) _ (c .before .before .before .before .before .decode .ensures .0) in
+    let short = c .before .before .before .before .before .before .before .before .before .before .before .before .before .before .pre .1 in
+    search needs
+
+slice-aggregate-print-run-3 : tie.Need-slice-aggregate-print-run-3
+slice-aggregate-print-run-3 c =
+    let a = c .before .before .before .before .before .before .before .before .before .before .before .before .before .before .before .args in
+    let few = few-counted (a .s .now) (a .from) _ (c .before .before .before .before .before .before .decode .ensures .0) in
+    let short = c .before .before .before .before .before .before .before .before .before .before .before .before .before .before .before .pre .1 in
+    let long : mostSteps ≡ length (c .before .before .before .before .before .before .decode .last .1 .1 .1 .1 .0) = search needs in
+    sym (length-take-le _ _ (omega arith))
+
+print-run-requires : tie.Need-print-run-requires
+print-run-requires c κs =
+    let a = c .before .before .before .before .before .before .before .before .before .before .before .before .before .before .before .before .args in
+    let pre = c .before .before .before .before .before .before .before .before .before .before .before .before .before .before .before .before .pre in
+    let d = c .before .before .before .before .before .before .before .decode in
+    let steps = stepsFrom (a .s .now) (a .from) in
+    let kinds = c .before .before .before .before .before .before .before .before .before .before .before .before .before .blank-bytes in
+    let doors = c .before .before .before .before .before .before .before .before .before .before .before .before .blank-numbers in
+    let persons = c .before .before .before .before .before .before .before .before .before .before .before .blank-numbers2 in
+    let counted = few-counted (a .s .now) (a .from) _ (d .ensures .0) in
+    let few : d .result .count ≤ mostSteps = omega (arith, pre .1) in
+    let lk : mostSteps ≡ length (d .last .1 .1 .0) = search needs in
+    let ld : mostSteps ≡ length (d .last .1 .1 .1 .0) = search needs in
+    let lp : mostSteps ≡ length (d .last .1 .1 .1 .1 .0) = search needs in
+    let k = length-take-le (d .result .count) (d .last .1 .1 .0) (omega arith) in
+    let x = length-take-le (d .result .count) (d .last .1 .1 .1 .0) (omega arith) in
+    let y = length-take-le (d .result .count) (d .last .1 .1 .1 .1 .0) (omega arith) in
+    (pre .0, (omega (arith, k, few), x ∙ sym k, y ∙ sym k))
+
+same-length : tie.Need-same-length
+same-length c = search needs
+
+returns : tie.Need-returns
+returns c =
+    let a = c .before .before .before .before .before .before .before .before .before .before .before .before .before .before .before .before .before .before .before .args in
+    let pre = c .before .before .before .before .before .before .before .before .before .before .before .before .before .before .before .before .before .before .before .pre in
+    let d = c .before .before .before .before .before .before .before .before .before .before .decode in
+    let steps = stepsFrom (a .s .now) (a .from) in
+    let kinds = c .before .before .before .before .before .before .before .before .before .before .before .before .before .before .before .before .blank-bytes in
+    let doors = c .before .before .before .before .before .before .before .before .before .before .before .before .before .before .before .blank-numbers in
+    let persons = c .before .before .before .before .before .before .before .before .before .before .before .before .before .before .blank-numbers2 in
+    let counted = few-counted (a .s .now) (a .from) _ (d .ensures .0) in
+    let few : d .result .count ≤ mostSteps = omega (arith, pre .1) in
+    let room = room-most (length (a .s .now)) _ _ _ (pre .1) (kinds .ensures) (doors .ensures) (persons .ensures) in
+    let lists = decoded-are steps _ room (d .ensures .0) (kinds .result) (doors .result) (persons .result) (omega (arith, few, kinds .ensures)) (omega (arith, few, doors .ensures)) (omega (arith, few, persons .ensures)) (d .ensures .1 .0) (d .ensures .1 .1 .0) (d .ensures .1 .1 .1) in
+    text-is _ _ (a .out .now) (ap (λ (rows : List StepRow). streamOf (linesIn (a .fresh) rows)) (decoded-rows lists)) (c .before .before .print-run .ensures)
+
+pub print-steps-spec : {M : Type 1} → statement M
+print-steps-spec =
+    tie.close
+    (tie.spec
+    blank-bytes-requires
+    blank-numbers-requires
+    blank-numbers-requires-2
+    slice-aggregate-decode
+    slice-aggregate-decode-2
+    slice-aggregate-decode-3
+    decode-requires
+    array-share-prefix-kinds
+    slice-aggregate-print-run
+    array-share-prefix-doors
+    slice-aggregate-print-run-2
+    array-share-prefix-persons
+    slice-aggregate-print-run-3
+    print-run-requires
+    same-length
+    returns)
