@@ -27,6 +27,8 @@ BARE_PATH = re.compile(r"(?<![\w./`])((?:crates/)?(?:[a-z_]+/)?(?:specs|proofs|s
 
 # The steps' words: a sheet has them, and crates below `steps_sheet` speak of them.
 STEPS = {"card", "decide", "green", "red", "walk", "tick", "passed", "lapsed", "dark", "ack"}
+# The MSGIDs of 02's syslog lines.
+MSGIDS = {"GRANT", "DENY", "PASS", "LAPSE"}
 # Words that stand for any name.
 ANY = {"NAME", "FILE", "FUNCTION", "PROGRAM", "NNNN"}
 # What begins with one of these is said to another program.
@@ -181,7 +183,7 @@ class Lines:
         for path, crate, words, _ in self.files:
             if not path.endswith(".edit"):
                 self.of_crate[crate] |= words
-        self.always = STEPS | set(listed) | set(os.listdir("bin"))
+        self.always = STEPS | MSGIDS | set(listed) | set(os.listdir("bin"))
         self.all = self.always.union(file_names(), *self.of_crate.values())
         self.below = {crate: on(listed, crate) for crate in listed}
         self.reached = {}

@@ -32,7 +32,7 @@ use Rattle.run_events.specs.Lines.{Line, linesOf, heardOf}
 use Rattle.run_events.specs.Events.{What, Grant, Denial, Passage, Lapse, RunEvent, event}
 use Rattle.run_events.specs.Told.{Standing, standingAt, whatBy, seenOf, eventsSeen}
 use Rattle.run_events.proofs.Doors.{doneReply, a-green, a-red, a-walk, a-tick, a-dark, stands}
-use Rattle.run_events.proofs.Steps.{lineOf, act-reply, not-done, door-here}
+use Rattle.run_events.proofs.Steps.{heardLine, act-reply, not-done, door-here}
 use Rattle.card_by_card.specs.Serving.{endsCard, recorded}
 use Rattle.card_by_card.specs.Served.{doneBy, doneAt, eventsAt, takenBy, personOf, openOf, decisionBy, grantedReply, deniedReply, grantOpen}
 
@@ -91,7 +91,7 @@ module _ {A : Type 0} (say : Line → List A) (ends : RunEvent → List A) (left
 
   -- the account of one step of a run, in row n, with what it handed back, at every door
   record Kept (n : ℕ) (r : Record) (row : StepRow) (z : Step) : Type 0 where
-    at-each : (d : ℕ) → openAt r d ++ doneBy say d (lineOf row z) ≡ eventsAt ends d (recorded (seenOf n r row z)) ++ openAt (z .next) d
+    at-each : (d : ℕ) → openAt r d ++ doneBy say d (heardLine row z) ≡ eventsAt ends d (recorded (seenOf n r row z)) ++ openAt (z .next) d
 
   module _ (fair : Fair) (n : ℕ) (r : Record) (sh : Shaped r) (s : Sound r) (row : StepRow) where
     -- of a refused step nothing is said, and it records nothing
@@ -110,20 +110,20 @@ module _ {A : Type 0} (say : Line → List A) (ends : RunEvent → List A) (left
       done : eqb (answerNo (z .answer)) 0 ≡ true
       done = ap (λ (a : Answer). eqb (answerNo a) 0) (act-done r (row .at) x)
 
-      said-here : doneBy say (row .at) (lineOf row z) ≡ say (lineBy (row .kind) (row .at) (row .person) (doorOf r (row .at)) x)
+      said-here : doneBy say (row .at) (heardLine row z) ≡ say (lineBy (row .kind) (row .at) (row .person) (doorOf r (row .at)) x)
       unfolding doneBy andAlso
       said-here = rw (eq-eqb (row .at) (row .at) refl, done) (ap (λ (reply : Reply). say (record { row = row; reply = reply })) (act-reply r (row .at) x))
 
       -- at the step's own door
-      here : openAt r (row .at) ++ doneBy say (row .at) (lineOf row z) ≡ eventsAt ends (row .at) (recorded (seenOf n r row z)) ++ openAt (z .next) (row .at)
+      here : openAt r (row .at) ++ doneBy say (row .at) (heardLine row z) ≡ eventsAt ends (row .at) (recorded (seenOf n r row z)) ++ openAt (z .next) (row .at)
       here =
           rw (said-here, done, door-here r (row .kind) (row .at) (row .person) sh s w)
           (fair .each n (row .at) (row .person) _ (doorOf r (row .at)) (row .kind) (w .allowed) .all)
 
       -- and at every other
-      there : (d : ℕ) → (d ≡ row .at → ⊥) → openAt r d ++ doneBy say d (lineOf row z) ≡ eventsAt ends d (recorded (seenOf n r row z)) ++ openAt (z .next) d
+      there : (d : ℕ) → (d ≡ row .at → ⊥) → openAt r d ++ doneBy say d (heardLine row z) ≡ eventsAt ends d (recorded (seenOf n r row z)) ++ openAt (z .next) d
       there d ne =
-          rw (none-said (lineOf row z) d ne, done, none-ended n (row .at) (getD (r .holder) (row .at) 0) (whatBy (row .kind) (reasonFor r (row .at) (getD (r .holder) (row .at) 0))) d ne, rw (allowed-does r (row .kind) (row .at) (row .person) w) at (others-stay r (row .kind) (row .at) (row .person) d ne))
+          rw (none-said (heardLine row z) d ne, done, none-ended n (row .at) (getD (r .holder) (row .at) 0) (whatBy (row .kind) (reasonFor r (row .at) (getD (r .holder) (row .at) 0))) d ne, rw (allowed-does r (row .kind) (row .at) (row .person) w) at (others-stay r (row .kind) (row .at) (row .person) d ne))
           (append-nil (openAt r d))
 
       kept-done : Kept n r row z
@@ -157,7 +157,7 @@ module _ {A : Type 0} (say : Line → List A) (ends : RunEvent → List A) (left
       let fs = eventsSeen (n + 1) next rows in
       let on = whole-account fair rows (n + 1) next (shaped-stays r (row .kind) (row .at) (row .person) sh) (sound-stays r (row .kind) (row .at) (row .person) sh s) d in
       rw (recorded-both es fs, ended-both d (recorded es) (recorded fs))
-      (joined (openAt r d) (doneBy say d (lineOf row (rowOf r row))) (eventsAt ends d (recorded es)) (openAt next d) (doneAt say d (heardOf next rows)) (eventsAt ends d (recorded fs)) (openAt (lastOf next rows) d) (kept fair n r sh s row .at-each d) on)
+      (joined (openAt r d) (doneBy say d (heardLine row (rowOf r row))) (eventsAt ends d (recorded es)) (openAt next d) (doneAt say d (heardOf next rows)) (eventsAt ends d (recorded fs)) (openAt (lastOf next rows) d) (kept fair n r sh s row .at-each d) on)
 
 -- ---- the persons of the cards, and the decisions
 

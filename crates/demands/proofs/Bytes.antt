@@ -19,7 +19,7 @@ use Rattle.card_by_card.specs.Serving.{recordedIn, services}
 use Rattle.card_by_card.specs.Served.{servedIn}
 use Rattle.card_by_card.proofs.DemandThree.{demand-3}
 use Rattle.demands.specs.Bytes.{replyOfLine, PrintedAsServed}
-use Rattle.paper_cases.proofs.Accepted.{accepted-fresh}
+use Rattle.stream_text.proofs.Accepted.{accepted-fresh}
 
 -- the replies of the lines are the replies of the run
 replies-heard : (r : Record) (rows : List StepRow) → map replyOfLine (heardOf r rows) ≡ repliesOf r rows

@@ -52,7 +52,7 @@ use Rattle.demands.proofs.Bytes.{printed-as-served}
 use Rattle.card_by_card.proofs.DemandThree as three
 use Rattle.card_by_card.proofs.Warden as warden
 use Rattle.card_by_card.proofs.Leaving as leaving
-use Rattle.paper_cases.proofs.Accepted.{accepted-fresh}
+use Rattle.stream_text.proofs.Accepted.{accepted-fresh}
 use Rattle.demands.proofs.Unique.{site-unique, steps-unique, run-unique, papers-unique}
 use Rattle.paper_cases.proofs.TwelveCases as cases
 

@@ -45,10 +45,10 @@ use Rattle.card_by_card.specs.Serving.{stepAt, ticked}
 use Rattle.card_by_card.specs.Served.{Fresh}
 use Rattle.paper_cases.specs.Cases.{withoutExit, exitsInACircle, withoutDoor, withoutRightOf0, withoutRightOf1, freshSite, reasonAt, phaseAt, cardAt, goesThrough, greenFor, placeAfter, GivenBack, TwelveCases}
 use Rattle.paper_cases.specs.WholeRun.{runOf01, rowsHeard}
-use Rattle.run_events.proofs.Steps.{lineOf}
+use Rattle.run_events.proofs.Steps.{heardLine}
 use Rattle.run_text.specs.Examples.{siteSheet}
 use Rattle.run_text.proofs.Examples.{soundLast, sound-last, site-of-01}
-use Rattle.paper_cases.proofs.Accepted.{accepted-fresh}
+use Rattle.stream_text.proofs.Accepted.{accepted-fresh}
 
 -- what the six sheets are told, and the record of the first
 sheets : (siteOf siteSheet .verdict ≡ Accepted)
@@ -103,15 +103,15 @@ soundHeard : Record → List StepRow → List Line
 soundHeard r [] = []
 soundHeard r (row ∷ rows) =
     let s = soundStep r (row .kind) (row .at) (row .person) in
-    lineOf row s ∷ soundHeard (s .next) rows
+    heardLine row s ∷ soundHeard (s .next) rows
 
 sound-heard : (rows : List StepRow) (r : Record) → Shaped r → Sound r → heardOf r rows ≡ soundHeard r rows
 unfolding heardOf linesOf repliesOf soundHeard
 sound-heard [] r sh s = refl
 sound-heard (row ∷ rows) r sh s =
-    ap (λ (l : List Line). lineOf row (rowOf r row) ∷ l)
+    ap (λ (l : List Line). heardLine row (rowOf r row) ∷ l)
     (sound-heard rows _ (shaped-stays r (row .kind) (row .at) (row .person) sh) (sound-stays r (row .kind) (row .at) (row .person) sh s))
-    ∙ ap (λ (x : Step). lineOf row x ∷ soundHeard (x .next) rows) (sound-steps r (row .kind) (row .at) (row .person) sh s)
+    ∙ ap (λ (x : Step). heardLine row x ∷ soundHeard (x .next) rows) (sound-steps r (row .kind) (row .at) (row .person) sh s)
 
 pub whole-run : heardOf freshSite (rowsHeard runOf01) ≡ runOf01
 unfolding soundHeard rowsHeard soundStep firstReason effect act existAmong allows hasGrant grantOf leastBelow orAt grantsTo grants mayBe andAlso orElse zeros

@@ -22,7 +22,7 @@ use Rattle.run_events.specs.Lines.{Line, linesOf, heardOf}
 use Rattle.run_events.specs.Events.{What, Meaning, Taken, Happened, Freed, Nothing, meaningBy, meaningOf, Stage, NoCard, Awaited, After, Spell, spellBy, spellsAfter, spellsOf}
 use Rattle.run_events.specs.Told.{standingAt, Free, Agree, Comes, end, elsewhere, unmoved, moved, here, later, Since, no-card, began, goes-on}
 use Rattle.run_events.proofs.Doors.{at-read, at-grant}
-use Rattle.run_events.proofs.Steps.{lineOf, done-means, not-done, after-here, after-there, row-tells}
+use Rattle.run_events.proofs.Steps.{heardLine, done-means, not-done, after-here, after-there, row-tells}
 
 -- ---- something happens only to a card
 
@@ -46,10 +46,10 @@ has-card Unknown reply what c e ok is = differ (cc)
 
 module _ (spells : ℕ → Spell) (r : Record) (agree : Agree spells r) (row : StepRow) where
   -- so the line of a step with an event has one
-  happens-to : (what : What) → meaningOf (lineOf row (rowOf r row)) ≡ Happened what → spells (row .at) .stage ≡ NoCard → ⊥
+  happens-to : (what : What) → meaningOf (heardLine row (rowOf r row)) ≡ Happened what → spells (row .at) .stage ≡ NoCard → ⊥
   unfolding meaningOf
   happens-to what =
-      step-cases (λ z. meaningOf (lineOf row z) ≡ Happened what → spells (row .at) .stage ≡ NoCard → ⊥) r (row .kind) (row .at) (row .person)
+      step-cases (λ z. meaningOf (heardLine row z) ≡ Happened what → spells (row .at) .stage ≡ NoCard → ⊥) r (row .kind) (row .at) (row .person)
       (λ a ph no-way e is. differ (cc (not-done a no-way)))
       (λ w e is. has-card (row .kind) _ what (doorOf r (row .at)) (sym (done-means r row _) ∙ e) (w .allowed) (sym (agree .each (row .at)) ∙ rw is))
 
@@ -68,7 +68,7 @@ at-door Nothing at e is card some on row person = goes-on (rw is at some) (unmov
 -- a step of the record, with the lines behind it
 module _ (spells : ℕ → Spell) (n : ℕ) (r : Record) (agree : Agree spells r) (row : StepRow) (d : ℕ) where
   abbrev line : Line
-  line = lineOf row (rowOf r row)
+  line = heardLine row (rowOf r row)
 
   one-more : {lines : List Line} {last : Spell} → Since d (spellsAfter spells n line d) last (n + 1) lines → Since d (spells d) last n (line ∷ lines)
   one-more (no-card e) = no-card e
@@ -93,5 +93,5 @@ since [] spells n r sh s agree d = go (spells d .stage) refl
     go (After what) e = goes-on (λ z. differ (cc)) end refl refl
 since (row ∷ rows) spells n r sh s agree d =
     one-more spells n r agree row d
-    (since rows (spellsAfter spells n (lineOf row (rowOf r row))) (n + 1) (rowOf r row .next) (shaped-stays r (row .kind) (row .at) (row .person) sh)
+    (since rows (spellsAfter spells n (heardLine row (rowOf r row))) (n + 1) (rowOf r row .next) (shaped-stays r (row .kind) (row .at) (row .person) sh)
     (sound-stays r (row .kind) (row .at) (row .person) sh s) (row-tells spells n r sh s agree row .after) d)

@@ -28,8 +28,8 @@ use Rattle.run_events.specs.Told.{standing, standingAt, Agree, seenOf}
 use Rattle.run_events.proofs.Doors.{doneReply, Follows, door-follows}
 
 -- the line of a step and what it handed back
-abbrev pub lineOf : StepRow → Step → Line
-lineOf row s = record { row = row; reply = replyBy s }
+abbrev pub heardLine : StepRow → Step → Line
+heardLine row s = record { row = row; reply = replyBy s }
 
 pub act-reply : (r : Record) (d : ℕ) (x : Does) → replyBy (act r d x) ≡ doneReply (doorOf r d) x
 unfolding act
@@ -38,7 +38,7 @@ act-reply r d (Turns c why) = refl
 act-reply r d (Moves c) = refl
 
 -- the line of a step that was done means what its kind says
-pub done-means : (r : Record) (row : StepRow) (x : Does) → meaningOf (lineOf row (act r (row .at) x)) ≡ meaningBy (row .kind) (doneReply (doorOf r (row .at)) x)
+pub done-means : (r : Record) (row : StepRow) (x : Does) → meaningOf (heardLine row (act r (row .at) x)) ≡ meaningBy (row .kind) (doneReply (doorOf r (row .at)) x)
 unfolding meaningOf
 done-means r row x = ap (λ (reply : Reply). meaningOf (record { row = row; reply = reply })) (act-reply r (row .at) x)
 
@@ -73,16 +73,16 @@ module _ (spells : ℕ → Spell) (n : ℕ) (line : Line) (d : ℕ) where
 
 -- what is told of a step of row n that handed back z, and what is seen of it
 pub record RowTells (spells : ℕ → Spell) (n : ℕ) (r : Record) (row : StepRow) (z : Step) : Type 0 where
-  pub seen : eventBy (meaningOf (lineOf row z)) n (row .at) (spells (row .at) .person) ≡ seenOf n r row z
-  pub after : Agree (spellsAfter spells n (lineOf row z)) (z .next)
+  pub seen : eventBy (meaningOf (heardLine row z)) n (row .at) (spells (row .at) .person) ≡ seenOf n r row z
+  pub after : Agree (spellsAfter spells n (heardLine row z)) (z .next)
 
 module _ (spells : ℕ → Spell) (n : ℕ) (r : Record) (sh : Shaped r) (s : Sound r) (agree : Agree spells r) (row : StepRow) where
   tells-refused : (a : Answer) (ph : ℕ) → (a ≡ Done → ⊥) → RowTells spells n r row (refused r a ph)
   unfolding meaningOf eventBy
   tells-refused a ph no-way =
       let off = not-done a no-way in
-      let nothing : meaningOf (lineOf row (refused r a ph)) ≡ Nothing = rw off in
-      record { seen = rw off; after = record { each = λ d. rw (after-nothing spells n (lineOf row (refused r a ph)) d nothing) (agree .each d) } }
+      let nothing : meaningOf (heardLine row (refused r a ph)) ≡ Nothing = rw off in
+      record { seen = rw off; after = record { each = λ d. rw (after-nothing spells n (heardLine row (refused r a ph)) d nothing) (agree .each d) } }
 
   module _ (w : Allowed r (row .kind) (row .at) (row .person)) where
     abbrev z : Step
@@ -94,12 +94,12 @@ module _ (spells : ℕ → Spell) (n : ℕ) (r : Record) (sh : Shaped r) (s : So
     follow : Follows n (row .at) (row .person) (reasonFor r (row .at) (getD (r .holder) (row .at) 0)) (row .kind) (doorOf r (row .at)) (doing r (row .kind) (row .at) (row .person)) (spells (row .at))
     follow = door-follows n (row .at) (row .person) _ (doorOf r (row .at)) (spells (row .at)) (agree .each (row .at)) (row .kind) (w .allowed)
 
-    here : standing (spellsAfter spells n (lineOf row z) (row .at)) ≡ standingAt (doorOf (z .next) (row .at))
-    here = rw (after-here spells n (lineOf row z) (row .at) refl, door-here r (row .kind) (row .at) (row .person) sh s w, done-means r row (doing r (row .kind) (row .at) (row .person))) (follow .after)
+    here : standing (spellsAfter spells n (heardLine row z) (row .at)) ≡ standingAt (doorOf (z .next) (row .at))
+    here = rw (after-here spells n (heardLine row z) (row .at) refl, door-here r (row .kind) (row .at) (row .person) sh s w, done-means r row (doing r (row .kind) (row .at) (row .person))) (follow .after)
 
-    there : (d : ℕ) → (d ≡ row .at → ⊥) → standing (spellsAfter spells n (lineOf row z) d) ≡ standingAt (doorOf (z .next) d)
+    there : (d : ℕ) → (d ≡ row .at → ⊥) → standing (spellsAfter spells n (heardLine row z) d) ≡ standingAt (doorOf (z .next) d)
     there d ne =
-        rw (after-there spells n (lineOf row z) d ne)
+        rw (after-there spells n (heardLine row z) d ne)
         (agree .each d ∙ ap standingAt (sym (rw acted at (others-stay r (row .kind) (row .at) (row .person) d ne))))
 
     tells-done : RowTells spells n r row z

@@ -149,8 +149,8 @@ alone : (aloneText 2 ≡ panelTop (four 0 2 0 0 [])) × (aloneText 5 ≡ panelTo
 unfolding aloneText placeRows placesText rowOfNumbers decimal digits zeros
 alone = (refl, refl, refl, refl)
 
-pub refused : _≡_ {A = ℕ} 5 0 → ⊥
-refused e = omega arith
+pub five-refused : _≡_ {A = ℕ} 5 0 → ⊥
+five-refused e = omega arith
 
 pub examples : Examples
 examples =
@@ -162,6 +162,6 @@ examples =
       bad-row = panel-ran badRow (headings .1) (steps .1) ∙ texts .1;
       wrong-header = panel-here [] (headings .2) ∙ alone .0;
       wrong-header-where = where-here [] (headings .2) ∙ alone .3;
-      refused-site = sym (panel-refused siteHeader [] (sym (sites .1)) refl refused) ∙ alone .1;
-      refused-site-where = sym (where-refused siteHeader [] (sym (sites .1)) refl refused) ∙ alone .2;
+      refused-site = sym (panel-refused siteHeader [] (sym (sites .1)) refl five-refused) ∙ alone .1;
+      refused-site-where = sym (where-refused siteHeader [] (sym (sites .1)) refl five-refused) ∙ alone .2;
     }

@@ -1,4 +1,4 @@
-// Sheets from files. What goes wrong is said on standard error.
+// Sheets from files, and a stream from standard input. What goes wrong is said on standard error.
 ghost use Rattle.io.specs.Counts.{Counts};
 
 // Whether a file has come to its end: a read finds nothing, and doesn't fail.
@@ -45,4 +45,11 @@ pub fn read_asked<'a>(place: usize, otherwise: &'a [u8], sheet: &'a mut [u8]) ->
         return read_sheet(otherwise, sheet);
     }
     read_sheet(&name[..length], sheet)
+}
+
+// The same of what comes on standard input.
+pub fn read_input(sheet: &mut [u8]) -> usize
+    ensures { λ r. ⌜ Counts r (now (sheet .exit)) ⌝ }
+{
+    read_whole(libc::STDIN_FILENO, b"standard input", sheet)
 }

@@ -11,7 +11,7 @@ use lists::word_at;
 use numbers::Paper;
 use phases::phase::Phase;
 use phases::table::Kind;
-use syslog::Event;
+use syslog::LineEvent;
 use syslog::Msgid;
 use syslog_write::put_frame;
 use tables::MOST_DOORS;
@@ -35,7 +35,7 @@ fn put_decided<'a>(
     ensures { λ r. ⌜ Wrote (now (out .entry)) at (framedOf (decidedEvent phase reason door person)) (now (out .exit)) r ⌝ }
 {
     if phase == Phase::GRANTED {
-        let grant = Event {
+        let grant = LineEvent {
             msgid: Msgid::Grant,
             door,
             person,
@@ -43,7 +43,7 @@ fn put_decided<'a>(
         };
         return put_frame(out, at, grant);
     }
-    let denial = Event {
+    let denial = LineEvent {
         msgid: Msgid::Deny,
         door,
         person,
@@ -71,7 +71,7 @@ fn put_told<'a>(
     match kind {
         Kind::Decide => put_decided(out, at, phase, reason, door, person),
         Kind::Passed => {
-            let passage = Event {
+            let passage = LineEvent {
                 msgid: Msgid::Pass,
                 door,
                 person,
@@ -80,7 +80,7 @@ fn put_told<'a>(
             put_frame(out, at, passage)
         }
         Kind::Lapsed => {
-            let lapse = Event {
+            let lapse = LineEvent {
                 msgid: Msgid::Lapse,
                 door,
                 person,

@@ -10,7 +10,7 @@ ghost use Rattle.text.specs.Printed.{Prints};
 ghost use Rattle.steps_sheet.specs.Steps.{headingOf, stepsFrom};
 ghost use Rattle.steps_sheet.specs.Lent.{mostSteps};
 ghost use Rattle.syslog.specs.Line.{streamOf};
-ghost use Rattle.stream_text.specs.Stream.{linesIn, stepsEvents, eventsText};
+ghost use Rattle.stream_text.specs.Stream.{lineEventsIn, stepsEvents, eventsText};
 ghost use Rattle.stream_text.specs.Rows.{Heard, streamFrom};
 use crate::blank::blank_bytes;
 use crate::blank::blank_numbers;
@@ -61,7 +61,7 @@ fn print_run<'a>(
 ) -> Printed
     requires { ⌜ soundB fresh ≡ true ⌝ }
     requires { ⌜ (length (now kinds) ≤ mostSteps) × (length (now doors) ≡ length (now kinds)) × (length (now persons) ≡ length (now kinds)) ⌝ }
-    ensures { λ r. ⌜ Prints (streamOf (linesIn fresh (rowsOf (now (kinds .entry)) (now (doors .entry)) (now (persons .entry))))) (now (out .entry)) r (now (out .exit)) ⌝ }
+    ensures { λ r. ⌜ Prints (streamOf (lineEventsIn fresh (rowsOf (now (kinds .entry)) (now (doors .entry)) (now (persons .entry))))) (now (out .entry)) r (now (out .exit)) ⌝ }
 {
     let mut answers = blank_bytes();
     let mut phases = blank_bytes();
@@ -91,7 +91,7 @@ fn print_run<'a>(
 fn print_steps<'a>(fresh: Record, s: &'a [u8], from: usize, out: &'a mut [u8]) -> Printed
     requires { ⌜ soundB fresh ≡ true ⌝ }
     requires { ⌜ length (now s) ≤ limit ⌝ }
-    ensures { λ r. ⌜ Prints (streamOf (linesIn fresh (stepsFrom (now (s .entry)) from .rows))) (now (out .entry)) r (now (out .exit)) ⌝ }
+    ensures { λ r. ⌜ Prints (streamOf (lineEventsIn fresh (stepsFrom (now (s .entry)) from .rows))) (now (out .entry)) r (now (out .exit)) ⌝ }
 {
     let mut kinds = blank_bytes();
     let mut doors = blank_numbers();

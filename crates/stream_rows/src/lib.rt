@@ -7,8 +7,8 @@ ghost use Rattle.syslog.specs.Rows.{eventRow, refusedRow, longRows, PutsEvents,
 use findings::Printed;
 use number_rows::put_row;
 use numbers::Paper;
-use syslog::Event;
 use syslog::FrameRead;
+use syslog::LineEvent;
 use syslog::Msgid;
 use syslog_read::read_frame;
 use text::write::put;
@@ -33,7 +33,7 @@ fn put_name(out: &mut [u8], at: usize, msgid: Msgid) -> usize
 }
 
 // The row of an event.
-fn put_event(out: &mut [u8], at: usize, event: Event) -> usize
+fn put_event(out: &mut [u8], at: usize, event: LineEvent) -> usize
     ensures { λ r. ⌜ Wrote (now (out .entry)) at (eventRow event) (now (out .exit)) r ⌝ }
 {
     let msgid = event.msgid;

@@ -20,8 +20,8 @@ use Rattle.card_by_card.specs.Served.{Fresh}
 use Rattle.card_by_card.specs.Warden.{isPassage, placesBy}
 use Rattle.card_by_card.proofs.Warden.{put-by-passages}
 use Rattle.run_text.specs.Printed.{placesText, recordText, lastRecord, whereText}
-use Rattle.stream_text.specs.Stream.{lineEvent, linesIn, stepsEvents, sheetEvents, isPass, collected}
-use Rattle.stream_text.proofs.Fit.{accepted-fresh}
+use Rattle.stream_text.specs.Stream.{lineEvent, lineEventsIn, stepsEvents, sheetEvents, isPass, collected}
+use Rattle.stream_text.proofs.Accepted.{accepted-fresh}
 
 -- the lines move whom the recorded passages move: a grant moves nobody, nor does what else ends a card
 collects : (destination place : List ℕ) (es : List RunEvent) → collected destination place (map lineEvent es) ≡ placesBy destination place (recorded es)
@@ -40,9 +40,9 @@ module _ (r : Record) (f : Fresh r) where
   outside : zeros mostPeople ≡ r .place
   outside = sym (ap (λ (x : Record). x .place) (f .fresh))
 
-  run-collected : (rows : List StepRow) → collected (r .destination) (zeros mostPeople) (linesIn r rows) ≡ lastOf r rows .place
+  run-collected : (rows : List StepRow) → collected (r .destination) (zeros mostPeople) (lineEventsIn r rows) ≡ lastOf r rows .place
   run-collected rows =
-      ap (λ (place : List ℕ). collected (r .destination) place (linesIn r rows)) outside
+      ap (λ (place : List ℕ). collected (r .destination) place (lineEventsIn r rows)) outside
       ∙ (collects (r .destination) (r .place) _ ∙ sym (put-by-passages r f rows .places))
 
   -- and so for every steps sheet

@@ -25,9 +25,6 @@ use Rattle.record.proofs.Right.{reason-first}
 use Rattle.record.proofs.Fresh.{fresh-free}
 use Rattle.record.proofs.Laws.{step-cases, act-done, sound-stays, shaped-stays, plan-stays}
 use Rattle.site_sheet.specs.Site.{siteOf, verdictNo}
-use Rattle.site_sheet.proofs.Theorems.{accepted-holds}
-use Rattle.grammar.specs.Sizes.{limit}
-use Rattle.verdict.specs.declared.Verdict.the-variants.{Accepted}
 use Rattle.steps_sheet.specs.declared.Heading.{Heading}
 use Rattle.steps_sheet.specs.declared.Heading.the-variants.{TooLong, Wrong, Rows}
 use Rattle.steps_sheet.specs.Steps.{headingOf}
@@ -39,7 +36,8 @@ use Rattle.run_events.proofs.Theorems.{all-seen, fresh-agree}
 use Rattle.card_by_card.specs.Served.{Fresh}
 use Rattle.run_text.proofs.Sheets.{zero-accepted}
 use Rattle.syslog.specs.Line.{mostNumber, ReasonFits, Fits, AllFit, no-more, fits}
-use Rattle.stream_text.specs.Stream.{msgidOf, reasonOf, lineEvent, linesIn, stepsEvents, sheetEvents}
+use Rattle.stream_text.specs.Stream.{msgidOf, reasonOf, lineEvent, lineEventsIn, stepsEvents, sheetEvents}
+use Rattle.stream_text.proofs.Accepted.{accepted-fresh}
 use Rattle.stream_text.proofs.Sheets.{lines-are, long-none, wrong-none}
 
 -- ---- one step
@@ -114,17 +112,12 @@ run-fits r sh s few spells n agree rows = rw (all-seen rows spells n r sh s agre
 
 -- ---- a fresh record, and the one of an accepted sheet
 
-pub fresh-fits : (r : Record) → Fresh r → (rows : List StepRow) → AllFit (linesIn r rows)
+pub fresh-fits : (r : Record) → Fresh r → (rows : List StepRow) → AllFit (lineEventsIn r rows)
 fresh-fits r f rows =
     let room : length (r .place) ≡ mostPeople = ap (λ (x : Record). length (x .place)) (f .fresh) ∙ zeros-long mostPeople in
     let people = f .sound .tables .in-range .people-to in
     let free : (d : ℕ) → doorOf r d ≡ freeDoor = λ d. ap (λ (x : Record). doorOf x d) (f .fresh) ∙ fresh-free (planOf r) (r .right) d in
     subst AllFit (sym (lines-are r rows)) (run-fits r (f .shaped) (f .sound) (omega arith) noSpells 1 (fresh-agree r free) rows)
-
-pub accepted-fresh : (site : List ℕ) → siteOf site .verdict ≡ Accepted → Fresh (siteOf site .«record»)
-accepted-fresh site e =
-    let a = accepted-holds limit site e in
-    record { fresh = subst (λ (r : Record). r ≡ freshRecord (planOf r) (r .right)) (sym (a .fresh)) refl; shaped = a .shaped; sound = a .sound }
 
 headed-fit : (r : Record) → Fresh r → (steps : List ℕ) (h : Heading) → AllFit (stepsEvents r steps h)
 headed-fit r f steps TooLong = subst AllFit (sym (long-none r steps)) no-more

@@ -18,10 +18,10 @@ use Rattle.steps_sheet.specs.Lent.{mostSteps}
 use Rattle.steps_sheet.proofs.Theorems.{few-steps, headed-short}
 use Rattle.run_events.specs.Lines.{Line, linesOf, heardOf}
 use Rattle.run_events.specs.Events.{Meaning, Taken, Happened, Freed, Nothing, meaningOf, Spell, spellsAfter, noSpells, eventBy, eventsOf, eventsIn}
-use Rattle.syslog.specs.declared.Event.{Event}
+use Rattle.syslog.specs.declared.LineEvent.{LineEvent}
 use Rattle.syslog.specs.Line.{framedOf, streamOf, AllFit, no-more, fits}
 use Rattle.syslog.proofs.Lengths.{frame-short}
-use Rattle.stream_text.specs.Stream.{lineEvent, linesIn, stepsEvents, sheetEvents, eventsText, mostStreamText}
+use Rattle.stream_text.specs.Stream.{lineEvent, lineEventsIn, stepsEvents, sheetEvents, eventsText, mostStreamText}
 use Rattle.stream_text.proofs.Fit.{sheets-fit}
 
 -- ---- how many events there are
@@ -49,7 +49,7 @@ lines-few [] replies = omega arith
 lines-few (row ∷ rows) [] = omega arith
 lines-few (row ∷ rows) (reply ∷ replies) = let on = lines-few rows replies in omega arith
 
-run-few : (r : Record) (rows : List StepRow) → length (linesIn r rows) ≤ length rows
+run-few : (r : Record) (rows : List StepRow) → length (lineEventsIn r rows) ≤ length rows
 unfolding heardOf
 run-few r rows =
     let same = length-map (eventsIn r rows) lineEvent in
@@ -69,12 +69,12 @@ headed-few r steps (Rows from) e =
 sheets-few : (site steps : List ℕ) → length (sheetEvents site steps) ≤ mostSteps
 unfolding sheetEvents
 sheets-few site steps =
-    either (λ (es : List Event). length es ≤ mostSteps) (eqb (verdictNo (siteOf site .verdict)) 0)
+    either (λ (es : List LineEvent). length es ≤ mostSteps) (eqb (verdictNo (siteOf site .verdict)) 0)
     (λ _. headed-few (siteOf site .«record») steps (headingOf steps) refl) (λ _. omega arith)
 
 -- ---- and how long their frames are
 
-stream-short : {es : List Event} → AllFit es → length (streamOf es) ≤ 50 * length es
+stream-short : {es : List LineEvent} → AllFit es → length (streamOf es) ≤ 50 * length es
 unfolding streamOf
 stream-short no-more = omega arith
 stream-short (fits {e} {es} f on) =

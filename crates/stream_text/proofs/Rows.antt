@@ -27,7 +27,7 @@ use Rattle.run_events.proofs.Steps.{after-here, after-there}
 use Rattle.run_text.specs.Printed.{repliesFrom}
 use Rattle.syslog.specs.declared.Msgid.{Msgid}
 use Rattle.syslog.specs.declared.Msgid.the-variants as msgid
-use Rattle.syslog.specs.declared.Event.{Event}
+use Rattle.syslog.specs.declared.LineEvent.{LineEvent}
 use Rattle.syslog.specs.Line.{framedOf, streamOf}
 use Rattle.stream_text.specs.Stream.{lineEvent}
 use Rattle.stream_text.specs.Rows.{lineWith, linesFrom, streamFrom, Heard, decidedEvent, toldText, cardBy, cardAfter}
@@ -35,7 +35,7 @@ use Rattle.stream_text.specs.Rows.{lineWith, linesFrom, streamFrom, Hear
 -- ---- what one step writes
 
 -- an event in the words of a line
-abbrev pub lineWords : Msgid → ℕ → ℕ → ℕ → Event
+abbrev pub lineWords : Msgid → ℕ → ℕ → ℕ → LineEvent
 lineWords id d p reason = record { msgid = id; door = d; person = p; reason = reason }
 
 -- where there is nothing to write

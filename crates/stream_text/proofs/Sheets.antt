@@ -31,13 +31,13 @@ use Rattle.run_text.proofs.Serving.{front-of, has-room, ran-told, told-length, 
 use Rattle.run_events.specs.Lines.{heardOf}
 use Rattle.run_events.specs.Events.{eventsIn}
 use Rattle.syslog.specs.Line.{streamOf}
-use Rattle.stream_text.specs.Stream.{lineEvent, linesIn, stepsEvents, sheetEvents, eventsText}
+use Rattle.stream_text.specs.Stream.{lineEvent, lineEventsIn, stepsEvents, sheetEvents, eventsText}
 use Rattle.stream_text.specs.Rows.{streamFrom, Heard}
 
 -- ---- two sheets
 
 -- "For each grant, denial, passage and lapse the panel writes one"
-pub lines-are : (r : Record) (rows : List StepRow) → linesIn r rows ≡ map lineEvent (eventsIn r rows)
+pub lines-are : (r : Record) (rows : List StepRow) → lineEventsIn r rows ≡ map lineEvent (eventsIn r rows)
 lines-are r rows = refl
 
 -- a sheet that can't be run has no events
@@ -111,7 +111,7 @@ rows-doors (k ∷ kinds) (x ∷ doors) (y ∷ persons) d p = ap (λ (l : List �
 -- what is heard of a run in lent lists, and its stream
 pub record HeardOf (r : Record) (kinds doors persons answers phases reasons : List ℕ) : Type 0 where
   pub heard : Heard kinds doors persons answers phases reasons
-  pub stream : streamFrom kinds doors persons answers phases reasons ≡ streamOf (linesIn r (rowsOf kinds doors persons))
+  pub stream : streamFrom kinds doors persons answers phases reasons ≡ streamOf (lineEventsIn r (rowsOf kinds doors persons))
 
 -- what a run's lists of answers, phases and reasons have behind a run with room for them
 abbrev Behind : Record → List ℕ → List ℕ → List ℕ → (answers phases reasons : List ℕ) → (Reply → ℕ) → List ℕ → List ℕ → Type 0

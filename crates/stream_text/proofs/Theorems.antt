@@ -21,10 +21,10 @@ use Rattle.run_text.proofs.Sheets.{zero-accepted}
 use Rattle.run_events.specs.Events.{What, Grant, Denial, Passage, Lapse, RunEvent, eventsIn}
 use Rattle.syslog.specs.declared.Msgid.{Msgid}
 use Rattle.syslog.specs.declared.Msgid.the-variants as msgid
-use Rattle.syslog.specs.declared.Event.{Event}
+use Rattle.syslog.specs.declared.LineEvent.{LineEvent}
 use Rattle.syslog.specs.Line.{streamOf}
 use Rattle.syslog.specs.Reading.{StreamSays}
-use Rattle.syslog.proofs.Theorems.{one-reading, stream-read-back}
+use Rattle.syslog.proofs.Theorems.{one-stream-reading, stream-read-back}
 use Rattle.stream_text.specs.Stream.{msgidOf, reasonOf, lineEvent, stepsEvents, sheetEvents, eventsText, mostStreamText}
 use Rattle.stream_text.specs.Claims.{EventsFit, SameButRow, StreamIsRead, CollectorKnows}
 use Rattle.stream_text.proofs.Fit.{run-fits, fresh-fits, sheets-fit}
@@ -52,9 +52,9 @@ pub lines-tell : (e f : RunEvent) → lineEvent e ≡ lineEvent f → SameButRow
 unfolding lineEvent
 lines-tell e f same =
     record {
-      same-what = sym (what-back (e .what)) ∙ (ap (λ (l : Event). whatOf (l .msgid) (l .reason)) same ∙ what-back (f .what));
-      same-door = ap (λ (l : Event). l .door) same;
-      same-person = ap (λ (l : Event). l .person) same;
+      same-what = sym (what-back (e .what)) ∙ (ap (λ (l : LineEvent). whatOf (l .msgid) (l .reason)) same ∙ what-back (f .what));
+      same-door = ap (λ (l : LineEvent). l .door) same;
+      same-person = ap (λ (l : LineEvent). l .person) same;
     }
 
 module _ (site steps : List ℕ) where
@@ -98,14 +98,14 @@ module _ (site steps : List ℕ) where
   empty e = rw e
 
   -- a whole reading is of those events
-  only-these : (es : List Event) → StreamSays (eventsText site steps) 0 es true → es ≡ sheetEvents site steps
-  only-these es says = one-reading (eventsText site steps) 0 es _ true true says reads .0
+  only-these : (es : List LineEvent) → StreamSays (eventsText site steps) 0 es true → es ≡ sheetEvents site steps
+  only-these es says = one-stream-reading (eventsText site steps) 0 es _ true true says reads .0
 
   pub stream-is-read : StreamIsRead site steps
   stream-is-read =
       record {
         reads = reads;
-        only = λ es whole says. one-reading (eventsText site steps) 0 es _ whole true says reads;
+        only = λ es whole says. one-stream-reading (eventsText site steps) 0 es _ whole true says reads;
         a-run = a-run;
         refused-site = λ no-way. empty (none no-way);
         no-rows = λ no-rows. empty (no-run no-rows);

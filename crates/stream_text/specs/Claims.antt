@@ -19,10 +19,10 @@ use Rattle.run_events.specs.Events.{RunEvent, Spell, eventsOf, eventsIn}
 use Rattle.run_events.specs.Told.{Agree}
 use Rattle.card_by_card.specs.Served.{Fresh}
 use Rattle.run_text.specs.Printed.{placesText, whereText}
-use Rattle.syslog.specs.declared.Event.{Event}
+use Rattle.syslog.specs.declared.LineEvent.{LineEvent}
 use Rattle.syslog.specs.Line.{AllFit}
 use Rattle.syslog.specs.Reading.{StreamSays}
-use Rattle.stream_text.specs.Stream.{lineEvent, linesIn, sheetEvents, eventsText, collected}
+use Rattle.stream_text.specs.Stream.{lineEvent, lineEventsIn, sheetEvents, eventsText, collected}
 
 -- Every event of a run has a line: no door or person is over 63, and the reason fits.
 pub record EventsFit : Type 0 where
@@ -30,7 +30,7 @@ pub record EventsFit : Type 0 where
   pub of-a-run : (r : Record) → Shaped r → Sound r → r .people ≤ mostPeople → (spells : ℕ → Spell) (n : ℕ) → Agree spells r → (rows : List StepRow)
       → AllFit (map lineEvent (eventsOf spells n (heardOf r rows)))
   -- so from every fresh one,
-  pub of-a-fresh-run : (r : Record) → Fresh r → (rows : List StepRow) → AllFit (linesIn r rows)
+  pub of-a-fresh-run : (r : Record) → Fresh r → (rows : List StepRow) → AllFit (lineEventsIn r rows)
   -- and of every two sheets
   pub of-the-sheets : (site steps : List ℕ) → AllFit (sheetEvents site steps)
 
@@ -45,7 +45,7 @@ pub record StreamIsRead (site steps : List ℕ) : Type 0 where
   -- the stream of two sheets reads as their events, and ends behind them,
   pub reads : StreamSays (eventsText site steps) 0 (sheetEvents site steps) true
   -- as nothing else,
-  pub only : (es : List Event) (whole : Bool) → StreamSays (eventsText site steps) 0 es whole → (es ≡ sheetEvents site steps) × (whole ≡ true)
+  pub only : (es : List LineEvent) (whole : Bool) → StreamSays (eventsText site steps) 0 es whole → (es ≡ sheetEvents site steps) × (whole ≡ true)
   -- and where there is a run, these are its events, each of them, in the order of the rows;
   pub a-run : siteOf site .verdict ≡ Accepted → (from : ℕ) → headingOf steps ≡ Rows from
       → sheetEvents site steps ≡ map lineEvent (eventsIn (siteOf site .«record») (stepsFrom steps from .rows))
@@ -58,9 +58,9 @@ pub record CollectorKnows (site steps : List ℕ) : Type 0 where
   -- the stream can be read, in one way alone,
   pub stream : StreamIsRead site steps
   -- and whatever is read from it puts everyone where the record has them: all begin outside;
-  pub accepted : siteOf site .verdict ≡ Accepted → (es : List Event) → StreamSays (eventsText site steps) 0 es true
+  pub accepted : siteOf site .verdict ≡ Accepted → (es : List LineEvent) → StreamSays (eventsText site steps) 0 es true
       → whereText site steps
       ≡ placesText (take (siteOf site .«record» .people) (collected (siteOf site .«record» .destination) (zeros mostPeople) es))
   -- with a refused site nothing is read, and `where` prints only the header
-  pub refused : (siteOf site .verdict ≡ Accepted → ⊥) → (es : List Event) → StreamSays (eventsText site steps) 0 es true
+  pub refused : (siteOf site .verdict ≡ Accepted → ⊥) → (es : List LineEvent) → StreamSays (eventsText site steps) 0 es true
       → (es ≡ []) × (whereText site steps ≡ placesText [])

@@ -27,7 +27,7 @@ denyFrame d p reason more =
 abbrev pub passFrame : ℕ → ℕ → List ℕ → List ℕ
 passFrame d p more = 51 ∷ 54 ∷ 32 ∷ 60 ∷ 56 ∷ 54 ∷ 62 ∷ nils (80 ∷ 65 ∷ 83 ∷ 83 ∷ doorPerson d p more)
 
-pub record Examples : Type 0 where
+pub record StreamExamples : Type 0 where
   -- 01's whole run: a grant, a denial for reason 1 and a passage
   pub stream-of-01 : eventsText siteSheet stepsSheet ≡ grantFrame 0 0 (denyFrame 1 0 1 (passFrame 0 0 []))
   -- a card, and then a row of bad form: nothing was decided before it

@@ -14,7 +14,7 @@ use Rattle.record.specs.Run.{rowsOf}
 use Rattle.run_events.specs.Lines.{Line, linesOf}
 use Rattle.run_events.specs.Events.{Grant, Denial, event, meaningOf, noSpells, eventBy, eventsOf}
 use Rattle.run_text.specs.Printed.{repliesFrom}
-use Rattle.syslog.specs.declared.Event.{Event}
+use Rattle.syslog.specs.declared.LineEvent.{LineEvent}
 use Rattle.syslog.specs.Line.{streamOf}
 use Rattle.stream_text.specs.Stream.{lineEvent}
 
@@ -41,7 +41,7 @@ pub record Heard (kinds doors persons answers phases reasons : List ℕ) : Type 
   pub exists : (i : ℕ) → i < length kinds → getD answers i 0 ≡ doneNo → getD doors i 0 < mostDoors
 
 -- the event of a `decide`: "1 to 2 or 6"
-abbrev pub decidedEvent : ℕ → ℕ → ℕ → ℕ → Event
+abbrev pub decidedEvent : ℕ → ℕ → ℕ → ℕ → LineEvent
 decidedEvent phase reason d p = lineEvent (event 0 d p (cond (eqb phase granted) Grant (Denial reason)))
 
 -- what one step writes, a card of person p being at its door

@@ -17,7 +17,7 @@ use Rattle.steps_sheet.specs.Lent.{mostSteps}
 use Rattle.run_events.specs.Events.{What, Grant, Denial, Passage, Lapse, RunEvent, eventsIn}
 use Rattle.syslog.specs.declared.Msgid.{Msgid}
 use Rattle.syslog.specs.declared.Msgid.the-variants as msgid
-use Rattle.syslog.specs.declared.Event.{Event}
+use Rattle.syslog.specs.declared.LineEvent.{LineEvent}
 use Rattle.syslog.specs.Line.{streamOf}
 
 -- ---- an event of a run, as its line has it
@@ -37,26 +37,26 @@ reasonOf Passage = 0
 reasonOf Lapse = 0
 
 -- `door=3 person=1`: its door and the card's person; a line doesn't tell the row
-unfoldable pub lineEvent : RunEvent → Event
+unfoldable pub lineEvent : RunEvent → LineEvent
 lineEvent e = record { msgid = msgidOf (e .what); door = e .at; person = e .person; reason = reasonOf (e .what) }
 
 -- ---- the events of two sheets
 
 -- "For each grant, denial, passage and lapse the panel writes one": of the run of a list of steps, in the order of its rows
-abbrev pub linesIn : Record → List StepRow → List Event
-linesIn fresh rows = map lineEvent (eventsIn fresh rows)
+abbrev pub lineEventsIn : Record → List StepRow → List LineEvent
+lineEventsIn fresh rows = map lineEvent (eventsIn fresh rows)
 
 -- none where the steps sheet is long or wrongly headed; else up to the row of bad form, where there is one
-abbrev pub stepsEvents : Record → List ℕ → Heading → List Event
+abbrev pub stepsEvents : Record → List ℕ → Heading → List LineEvent
 stepsEvents r steps TooLong = []
 stepsEvents r steps Wrong = []
-stepsEvents r steps (Rows from) = linesIn r (stepsFrom steps from .rows)
+stepsEvents r steps (Rows from) = lineEventsIn r (stepsFrom steps from .rows)
 
 -- and none where the site is refused
-abbrev pub siteEvents : SiteRead → List ℕ → List Event
+abbrev pub siteEvents : SiteRead → List ℕ → List LineEvent
 siteEvents read steps = cond (eqb (verdictNo (read .verdict)) doneNo) (stepsEvents (read .«record») steps (headingOf steps)) []
 
-unfoldable pub sheetEvents : List ℕ → List ℕ → List Event
+unfoldable pub sheetEvents : List ℕ → List ℕ → List LineEvent
 sheetEvents site steps = siteEvents (siteOf site) steps
 
 -- What `events` prints: "On a stream the octet count of RFC 6587 stands in front".
@@ -76,7 +76,7 @@ isPass msgid.Pass = true
 isPass msgid.Lapse = false
 
 -- everyone's places after these events: each PASS puts its person in its door's destination, and nothing else moves anybody
-unfoldable pub collected : List ℕ → List ℕ → List Event → List ℕ
+unfoldable pub collected : List ℕ → List ℕ → List LineEvent → List ℕ
 collected destination place [] = place
 collected destination place (e ∷ es) =
     collected destination (cond (isPass (e .msgid)) (set place (e .person) (getD destination (e .door) 0)) place) es

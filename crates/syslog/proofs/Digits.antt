@@ -11,7 +11,7 @@ use borrow.Author.Tests.{le-leb, ltb-true, ltb-false}
 use Rattle.tables.specs.Tables.{andAlso}
 use Rattle.text.specs.Text.{digitByte, decimal}
 use Rattle.text.proofs.Decimal.{decimal-short, decimal-long, four-digits}
-use Rattle.syslog.specs.Rfc.{Each, no-more, and, Digit, saidFrom, said, MsgLen, msg-len}
+use Rattle.syslog.specs.Rfc.{EachByte, no-more, and, DIGIT, numberSaidFrom, numberSaid, MsgLen, msg-len}
 use Rattle.syslog.specs.Guess.{isDigit, numberOn, numberFrom}
 
 -- what holds of numbers of one digit, and of a number where it holds of its tenth, holds of all
@@ -84,31 +84,31 @@ number-back n {t} h s = by-digits Back back-short back-long n 4 t (four-digits n
 
 -- ---- a number is a number by the RFC
 
-said-both : (n : ℕ) (xs ys : List ℕ) → saidFrom n (xs ++ ys) ≡ saidFrom (saidFrom n xs) ys
-unfolding saidFrom
+said-both : (n : ℕ) (xs ys : List ℕ) → numberSaidFrom n (xs ++ ys) ≡ numberSaidFrom (numberSaidFrom n xs) ys
+unfolding numberSaidFrom
 said-both n [] ys = refl
 said-both n (x ∷ xs) ys = said-both (n * 10 + (x - 48)) xs ys
 
-pub said-back : (n : ℕ) → said (decimal n) ≡ n
-unfolding saidFrom
+pub said-back : (n : ℕ) → numberSaid (decimal n) ≡ n
+unfolding numberSaidFrom
 said-back =
-    by-digits (λ n. said (decimal n) ≡ n) (λ n h. let e : 0 * 10 + (48 + n - 48) ≡ n = omega arith in rw (decimal-short n h, e))
+    by-digits (λ n. numberSaid (decimal n) ≡ n) (λ n h. let e : 0 * 10 + (48 + n - 48) ≡ n = omega arith in rw (decimal-short n h, e))
     (λ n h tenth. let e : n / 10 * 10 + (48 + n % 10 - 48) ≡ n = omega arith in rw (decimal-long n h, said-both 0 (decimal (n / 10)) (digitByte (n % 10) ∷ []), tenth, e))
 
-pub each-both : {Byte : ℕ → Type 0} {xs ys : List ℕ} → Each Byte xs → Each Byte ys → Each Byte (xs ++ ys)
+pub each-both : {Byte : ℕ → Type 0} {xs ys : List ℕ} → EachByte Byte xs → EachByte Byte ys → EachByte Byte (xs ++ ys)
 each-both no-more ys = ys
 each-both (and b xs) ys = and b (each-both xs ys)
 
-a-digit : (d : ℕ) → d < 10 → Each Digit (digitByte d ∷ [])
+a-digit : (d : ℕ) → d < 10 → EachByte DIGIT (digitByte d ∷ [])
 a-digit d h = and {b = 48 + d} (omega arith, omega arith) no-more
 
-pub each-digit : (n : ℕ) → Each Digit (decimal n)
+pub each-digit : (n : ℕ) → EachByte DIGIT (decimal n)
 each-digit =
-    by-digits (λ n. Each Digit (decimal n)) (λ n h. rw (decimal-short n h) (a-digit n h))
+    by-digits (λ n. EachByte DIGIT (decimal n)) (λ n h. rw (decimal-short n h) (a-digit n h))
     (λ n h tenth. rw (decimal-long n h) (each-both tenth (a-digit (n % 10) (omega arith))))
 
 -- "MSG-LEN = NONZERO-DIGIT *DIGIT"
-more-digits : {xs ys : List ℕ} → MsgLen xs → Each Digit ys → MsgLen (xs ++ ys)
+more-digits : {xs ys : List ℕ} → MsgLen xs → EachByte DIGIT ys → MsgLen (xs ++ ys)
 more-digits (msg-len b bs) ys = msg-len b (each-both bs ys)
 
 pub count-digits : (n : ℕ) → 1 ≤ n → MsgLen (decimal n)

@@ -11,7 +11,7 @@ use Rattle.tables.specs.Tables.{andAlso}
 use Rattle.tables.proofs.Cases.{same-or-not, below-or-not}
 use Rattle.tables.proofs.Laws.{clash}
 use Rattle.text.specs.Text.{decimal}
-use Rattle.syslog.specs.declared.Event.{Event}
+use Rattle.syslog.specs.declared.LineEvent.{LineEvent}
 use Rattle.syslog.specs.declared.LineRead.{LineRead}
 use Rattle.syslog.specs.declared.LineRead.the-variants as line
 use Rattle.syslog.specs.declared.FrameRead.{FrameRead}
@@ -27,10 +27,10 @@ use Rattle.syslog.proofs.Guessing.{guess-line, guess-frame}
 -- ---- lines
 
 -- a line is the guess's own
-line-guess : {text : List ℕ} {e : Event} → LineIs text e → guessOf text ≡ e
+line-guess : {text : List ℕ} {e : LineEvent} → LineIs text e → guessOf text ≡ e
 line-guess {text} {e} l = ap guessOf (l .is) ∙ guess-line e (l .fits)
 
-pub line-found : {text : List ℕ} {e : Event} → fitsLine e ≡ true → text ≡ lineOf e → ReadsLine text (line.Is e)
+pub line-found : {text : List ℕ} {e : LineEvent} → fitsLine e ≡ true → text ≡ lineOf e → ReadsLine text (line.Is e)
 line-found {e = e} f is = record { fits = fits-tells e .yes f; is = is }
 
 pub line-unfit : {text : List ℕ} → fitsLine (guessOf text) ≡ false → ReadsLine text line.NotOurs
@@ -39,7 +39,7 @@ line-unfit {text} f e l = clash (fits-tells (guessOf text) .back (subst Fits (sy
 pub line-other : {text : List ℕ} → (text ≡ lineOf (guessOf text) → ⊥) → ReadsLine text line.NotOurs
 line-other {text} ne e l = ne (l .is ∙ ap lineOf (sym (line-guess l)))
 
-pub line-once : {text : List ℕ} {e f : Event} → LineIs text e → LineIs text f → e ≡ f
+pub line-once : {text : List ℕ} {e f : LineEvent} → LineIs text e → LineIs text f → e ≡ f
 line-once a b = sym (line-guess a) ∙ line-guess b
 
 -- ---- frames
@@ -49,14 +49,14 @@ unfolding isDigit andAlso
 blank-ends t = at-byte {b = 32} refl
 
 -- the count in front of a frame is the length of its line
-count-is : (e : Event) → Fits e → (rest : List ℕ) → frameSize (framedOf e ++ rest) ≡ length (framedOf e)
+count-is : (e : LineEvent) → Fits e → (rest : List ℕ) → frameSize (framedOf e ++ rest) ≡ length (framedOf e)
 unfolding framedOf
 count-is e f rest =
     let s = line-short e f in
     let n : numberFrom (decimal (length (lineOf e)) ++ (32 ∷ (lineOf e ++ rest))) ≡ length (lineOf e) = number-back (length (lineOf e)) (omega arith) (blank-ends (lineOf e ++ rest)) in
     rw (append-assoc, n) (sym (frame-is e f))
 
-module _ {s : List ℕ} {at : ℕ} {e : Event} {next : ℕ} (x : FrameAt s at e next) where
+module _ {s : List ℕ} {at : ℕ} {e : LineEvent} {next : ℕ} (x : FrameAt s at e next) where
   -- what lies from the place on
   pub frame-there : drop at s ≡ framedOf e ++ x .rest
   frame-there = rw (x .place, x .split) (drop-append-seam (x .front) (framedOf e ++ x .rest))
@@ -83,10 +83,10 @@ module _ {s : List ℕ} {at : ℕ} {e : Event} {next : ℕ} (x : FrameAt s at e 
   pub frame-onward : (at < next) × (next ≤ length s)
   frame-onward = let i = frame-inside in let n = frame-some in let b = x .behind-it in (omega arith, omega arith)
 
-pub frame-once : {s : List ℕ} {at : ℕ} {e f : Event} {next then : ℕ} → FrameAt s at e next → FrameAt s at f then → (e ≡ f) × (next ≡ then)
+pub frame-once : {s : List ℕ} {at : ℕ} {e f : LineEvent} {next then : ℕ} → FrameAt s at e next → FrameAt s at f then → (e ≡ f) × (next ≡ then)
 frame-once {at = at} {e} {f} a b =
     let same : e ≡ f = sym (frame-guess a) ∙ frame-guess b in
-    (same, a .behind-it ∙ ap (λ (g : Event). at + length (framedOf g)) same ∙ sym (b .behind-it))
+    (same, a .behind-it ∙ ap (λ (g : LineEvent). at + length (framedOf g)) same ∙ sym (b .behind-it))
 
 -- ---- what is found at a place inside a stream
 
@@ -109,7 +109,7 @@ module _ (s : List ℕ) (at : ℕ) (in-it : at < length s) where
     pub frame-other : (text ≡ framedOf (guessOf text) → ⊥) → ReadsFrame s at frame.NotOurs
     frame-other ne = (not-end, λ e next x. ne (frame-text x ∙ ap framedOf (sym (frame-guess x))))
 
-    pub frame-found : {e : Event} → fitsLine e ≡ true → text ≡ framedOf e → ReadsFrame s at (frame.Frame e (at + frameSize (drop at s)))
+    pub frame-found : {e : LineEvent} → fitsLine e ≡ true → text ≡ framedOf e → ReadsFrame s at (frame.Frame e (at + frameSize (drop at s)))
     frame-found {e} f is =
         let size : length text ≡ frameSize (drop at s) = length-take-le (frameSize (drop at s)) (drop at s) room in
         let there : drop at s ≡ framedOf e ++ drop (frameSize (drop at s)) (drop at s) = sym (take-append-drop (frameSize (drop at s)) (drop at s)) ∙ ap (λ (t : List ℕ). t ++ drop (frameSize (drop at s)) (drop at s)) is in

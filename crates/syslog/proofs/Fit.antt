@@ -5,7 +5,7 @@ use Rattle.tables.specs.Below.{Tells}
 use Rattle.tables.proofs.Laws.{tell-and, tell-le, tell-eq}
 use Rattle.syslog.specs.declared.Msgid.{Msgid}
 use Rattle.syslog.specs.declared.Msgid.the-variants.{Grant, Deny, Pass, Lapse}
-use Rattle.syslog.specs.declared.Event.{Event}
+use Rattle.syslog.specs.declared.LineEvent.{LineEvent}
 use Rattle.syslog.specs.Line.{mostNumber, ReasonFits, Fits, reasonFits, fitsLine}
 
 reason-tells : (m : Msgid) (reason : ℕ) → Tells (reasonFits m reason) (ReasonFits m reason)
@@ -15,7 +15,7 @@ reason-tells Deny reason = tell-and (tell-le 1 reason) (tell-le reason 3)
 reason-tells Pass reason = tell-eq reason 0
 reason-tells Lapse reason = tell-eq reason 0
 
-pub fits-tells : (e : Event) → Tells (fitsLine e) (Fits e)
+pub fits-tells : (e : LineEvent) → Tells (fitsLine e) (Fits e)
 unfolding fitsLine
 fits-tells e =
     let t = tell-and (tell-le (e .door) mostNumber) (tell-and (tell-le (e .person) mostNumber) (reason-tells (e .msgid) (e .reason))) in

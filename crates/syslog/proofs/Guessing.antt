@@ -10,7 +10,7 @@ use Rattle.tables.specs.Tables.{andAlso}
 use Rattle.text.specs.Text.{digitByte, digits, decimal}
 use Rattle.syslog.specs.declared.Msgid.{Msgid}
 use Rattle.syslog.specs.declared.Msgid.the-variants.{Grant, Deny, Pass, Lapse}
-use Rattle.syslog.specs.declared.Event.{Event}
+use Rattle.syslog.specs.declared.LineEvent.{LineEvent}
 use Rattle.syslog.specs.Line.{personMark, reasonPart, lineOf, headOf, tailOf, framedOf, ReasonFits, Fits}
 use Rattle.syslog.specs.Guess.{msgidBy, msgidIn, behindMark, isDigit, numberOn, numberFrom, guessOf}
 use Rattle.syslog.proofs.Digits.{skips, Stops, at-end, at-byte, number-back}
@@ -67,7 +67,7 @@ reason-stops Pass reason = at-end
 reason-stops Lapse reason = at-end
 
 -- a text with an event's MSGID for its first word, and its tail behind the first mark
-guess-is : (e : Event) → Fits e → (t : List ℕ) → msgidIn t ≡ e .msgid → behindMark t ≡ tailOf e → guessOf t ≡ e
+guess-is : (e : LineEvent) → Fits e → (t : List ℕ) → msgidIn t ≡ e .msgid → behindMark t ≡ tailOf e → guessOf t ≡ e
 guess-is e f t m b =
     let last = decimal (e .person) ++ reasonPart (e .msgid) (e .reason) in
     let two : behindMark (tailOf e) ≡ last = skips behindMark digit-no-mark (e .door) (personMark ++ last) ∙ person-mark last in
@@ -76,7 +76,7 @@ guess-is e f t m b =
     let person : numberFrom last ≡ e .person = number-back (e .person) (omega (arith, f .person)) (reason-stops (e .msgid) (e .reason)) in
     rw (m, b, two, three, door, person, reason-mark (e .msgid) (e .reason) (f .reason))
 
-pub guess-line : (e : Event) → Fits e → guessOf (lineOf e) ≡ e
+pub guess-line : (e : LineEvent) → Fits e → guessOf (lineOf e) ≡ e
 guess-line e f =
     guess-is e f (lineOf e) (ap msgidIn (head-and-tail e) ∙ head-msgid (e .msgid) (tailOf e))
     (ap behindMark (head-and-tail e) ∙ head-mark (e .msgid) (tailOf e))
@@ -91,7 +91,7 @@ count-mark : (n : ℕ) (t : List ℕ) → behindMark (decimal n ++ (32 ∷ t)) �
 unfolding behindMark
 count-mark n t = skips behindMark digit-no-mark n (32 ∷ t)
 
-pub guess-frame : (e : Event) → Fits e → guessOf (framedOf e) ≡ e
+pub guess-frame : (e : LineEvent) → Fits e → guessOf (framedOf e) ≡ e
 unfolding framedOf
 guess-frame e f =
     guess-is e f (framedOf e) (count-msgid (length (lineOf e)) (lineOf e) ∙ ap msgidIn (head-and-tail e) ∙ head-msgid (e .msgid) (tailOf e))

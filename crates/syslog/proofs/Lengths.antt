@@ -9,7 +9,7 @@ use Rattle.text.specs.Wrote.{lastPlace}
 use Rattle.text.proofs.Decimal.{decimal-short, decimal-long, one-digit, two-digits, digits-most}
 use Rattle.syslog.specs.declared.Msgid.{Msgid}
 use Rattle.syslog.specs.declared.Msgid.the-variants.{Grant, Deny, Pass, Lapse}
-use Rattle.syslog.specs.declared.Event.{Event}
+use Rattle.syslog.specs.declared.LineEvent.{LineEvent}
 use Rattle.syslog.specs.Line.{facility, severityOf, nameOf, doorMark, personMark, reasonMark, reasonPart, lineOf, headOf, tailOf, framedOf, ReasonFits, Fits}
 
 -- ---- the parts of a line
@@ -23,7 +23,7 @@ head-first Deny t = refl
 head-first Pass t = refl
 head-first Lapse t = refl
 
-pub head-and-tail : (e : Event) → lineOf e ≡ headOf (e .msgid) ++ tailOf e
+pub head-and-tail : (e : LineEvent) → lineOf e ≡ headOf (e .msgid) ++ tailOf e
 unfolding lineOf
 head-and-tail e = head-first (e .msgid) (tailOf e)
 
@@ -50,13 +50,13 @@ reason-most Deny reason width h = let l = length-append reasonMark (decimal reas
 reason-most Pass reason width h = omega arith
 reason-most Lapse reason width h = omega arith
 
-pub line-length : (e : Event)
+pub line-length : (e : LineEvent)
     → length (lineOf e) ≡ length (headOf (e .msgid)) + (length (decimal (e .door)) + (8 + (length (decimal (e .person)) + length (reasonPart (e .msgid) (e .reason)))))
 line-length e =
     ap length (head-and-tail e) ∙ length-append (headOf (e .msgid)) (tailOf e)
     ∙ rw (length-append (decimal (e .door)) (personMark ++ (decimal (e .person) ++ reasonPart (e .msgid) (e .reason))), length-append personMark (decimal (e .person) ++ reasonPart (e .msgid) (e .reason)), length-append (decimal (e .person)) (reasonPart (e .msgid) (e .reason)))
 
-pub line-least : (e : Event) → 10 ≤ length (lineOf e)
+pub line-least : (e : LineEvent) → 10 ≤ length (lineOf e)
 line-least e = let l = line-length e in let h = head-least (e .msgid) in omega arith
 
 -- only a denial has a reason
@@ -67,7 +67,7 @@ fit-part Deny reason h = let l = length-append reasonMark (decimal reason) in le
 fit-part Pass reason h = omega arith
 fit-part Lapse reason h = omega arith
 
-pub line-short : (e : Event) → Fits e → length (lineOf e) ≤ 47
+pub line-short : (e : LineEvent) → Fits e → length (lineOf e) ≤ 47
 line-short e f =
     let l = line-length e in
     let d = two-digits (e .door) (omega (arith, f .door)) in
@@ -78,7 +78,7 @@ line-short e f =
 two-exactly : (n : ℕ) → 10 ≤ n → n < 100 → length (decimal n) ≡ 2
 two-exactly n l h = rw (decimal-long n l, decimal-short (n / 10) (omega arith))
 
-pub frame-is : (e : Event) → Fits e → length (framedOf e) ≡ length (lineOf e) + 3
+pub frame-is : (e : LineEvent) → Fits e → length (framedOf e) ≡ length (lineOf e) + 3
 unfolding framedOf
 frame-is e f =
     let l = length-append (decimal (length (lineOf e))) (32 ∷ lineOf e) in
@@ -86,7 +86,7 @@ frame-is e f =
     let k = two-exactly (length (lineOf e)) (line-least e) (omega arith) in
     omega arith
 
-pub frame-short : (e : Event) → Fits e → length (framedOf e) ≤ 50
+pub frame-short : (e : LineEvent) → Fits e → length (framedOf e) ≤ 50
 frame-short e f = let i = frame-is e f in let s = line-short e f in omega arith
 
 -- ---- any event at all
@@ -94,7 +94,7 @@ frame-short e f = let i = frame-is e f in let s = line-short e f in omega arith
 twenty-digits : (n : ℕ) → n ≤ lastPlace → length (decimal n) ≤ 20
 twenty-digits n h = digits-most 19 n (omega arith)
 
-pub line-small : (e : Event) → e .door ≤ lastPlace → e .person ≤ lastPlace → e .reason ≤ lastPlace → length (lineOf e) ≤ 103
+pub line-small : (e : LineEvent) → e .door ≤ lastPlace → e .person ≤ lastPlace → e .reason ≤ lastPlace → length (lineOf e) ≤ 103
 line-small e d p r =
     let l = line-length e in
     let h = head-most (e .msgid) in

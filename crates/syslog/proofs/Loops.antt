@@ -87,8 +87,8 @@ unfolding isDigit
 digit-within b e = tell-and (tell-le 48 b) (tell-le b 57) .yes e
 
 module _ {text : List ℕ} {n i : ℕ} (at : Numbering text n i) where
-  pub number-small : n < 10000
-  number-small = let p = few-powers i (at .few) in let s = at .small in omega arith
+  pub number-bounded : n < 10000
+  number-bounded = let p = few-powers i (at .few) in let s = at .small in omega arith
 
   pub number-more : i < 4 → i < length text → isDigit (getD text i 0) ≡ true → Numbering text (n * 10 + (getD text i 0 - 48)) (i + 1)
   unfolding numberOn

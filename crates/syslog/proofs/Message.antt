@@ -13,10 +13,10 @@ use Rattle.tables.proofs.Laws.{and-left, and-right}
 use Rattle.text.specs.Text.{digits, decimal}
 use Rattle.syslog.specs.declared.Msgid.{Msgid}
 use Rattle.syslog.specs.declared.Msgid.the-variants.{Grant, Deny, Pass, Lapse}
-use Rattle.syslog.specs.declared.Event.{Event}
+use Rattle.syslog.specs.declared.LineEvent.{LineEvent}
 use Rattle.syslog.specs.Line.{facility, severityOf, nameOf, doorMark, personMark, reasonMark, reasonPart, messageOf, lineOf, framedOf, streamOf}
 use Rattle.syslog.specs.Rfc as rfc
-use Rattle.syslog.specs.Rfc.{Each, no-more, and, From_To_, Octet, Digit, PrintUsAscii, said, PriVal, Version, version, Printable, MsgId, Msg, any, msg, nilValue, bom, Priority, IsSyslogMsg, IsFrame, TcpData}
+use Rattle.syslog.specs.Rfc.{EachByte, no-more, and, From_To_, OCTET, DIGIT, PRINTUSASCII, numberSaid, PriVal, Version, version, Printable, MsgId, Msg, any, msg, nilValue, bom, Priority, IsSyslogMsg, IsFrame, TcpData}
 use Rattle.syslog.specs.Claims.{partsOf, LineIsRfc5424, FrameIsRfc6587}
 use Rattle.syslog.proofs.Digits.{said-back, each-both, each-digit, count-digits}
 use Rattle.syslog.proofs.Lengths.{line-least}
@@ -28,7 +28,7 @@ unfoldable allWithin : ℕ → ℕ → List ℕ → Bool
 allWithin least most [] = true
 allWithin least most (b ∷ bs) = andAlso (andAlso (leb least b) (leb b most)) (allWithin least most bs)
 
-each-within : (least most : ℕ) (bs : List ℕ) → allWithin least most bs ≡ true → Each (From_To_ least most) bs
+each-within : (least most : ℕ) (bs : List ℕ) → allWithin least most bs ≡ true → EachByte (From_To_ least most) bs
 unfolding allWithin
 each-within least most [] e = no-more
 each-within least most (b ∷ bs) e =
@@ -36,14 +36,14 @@ each-within least most (b ∷ bs) e =
     and (leb-true least b (and-left (leb least b) (leb b most) here), leb-true b most (and-right (leb least b) (leb b most) here))
     (each-within least most bs (and-right (andAlso (leb least b) (leb b most)) (allWithin least most bs) e))
 
-each-wider : {P Q : ℕ → Type 0} {bs : List ℕ} → ((b : ℕ) → P b → Q b) → Each P bs → Each Q bs
+each-wider : {P Q : ℕ → Type 0} {bs : List ℕ} → ((b : ℕ) → P b → Q b) → EachByte P bs → EachByte Q bs
 each-wider wide no-more = no-more
 each-wider wide (and {b} p on) = and (wide b p) (each-wider wide on)
 
-octets : (bs : List ℕ) → allWithin 0 255 bs ≡ true → Each Octet bs
+octets : (bs : List ℕ) → allWithin 0 255 bs ≡ true → EachByte OCTET bs
 octets bs e = each-wider (λ b h. h .1) (each-within 0 255 bs e)
 
-number-octets : (n : ℕ) → Each Octet (decimal n)
+number-octets : (n : ℕ) → EachByte OCTET (decimal n)
 number-octets n = each-wider (λ b h. omega (arith, h .1)) (each-digit n)
 
 -- ---- the parts
@@ -67,21 +67,21 @@ name-is Deny = record { each = each-within 33 126 (nameOf Deny) refl; some = ome
 name-is Pass = record { each = each-within 33 126 (nameOf Pass) refl; some = omega arith; few = omega arith }
 name-is Lapse = record { each = each-within 33 126 (nameOf Lapse) refl; some = omega arith; few = omega arith }
 
-reason-octets : (m : Msgid) (reason : ℕ) → Each Octet (reasonPart m reason)
+reason-octets : (m : Msgid) (reason : ℕ) → EachByte OCTET (reasonPart m reason)
 unfolding allWithin andAlso
 reason-octets Grant reason = no-more
 reason-octets Deny reason = each-both (octets reasonMark refl) (number-octets reason)
 reason-octets Pass reason = no-more
 reason-octets Lapse reason = no-more
 
-message-octets : (e : Event) → Each Octet (messageOf e)
+message-octets : (e : LineEvent) → EachByte OCTET (messageOf e)
 unfolding allWithin andAlso
 message-octets e =
     each-both (octets doorMark refl)
     (each-both (number-octets (e .door)) (each-both (octets personMark refl) (each-both (number-octets (e .person)) (reason-octets (e .msgid) (e .reason)))))
 
 -- "MSG-ANY = *OCTET ; not starting with BOM"
-message-is : (e : Event) → Msg (messageOf e)
+message-is : (e : LineEvent) → Msg (messageOf e)
 message-is e = any (message-octets e) (λ rest is. let z : _≡_ {A = ℕ} 100 239 = ap first is in omega arith)
   where
     first : List ℕ → ℕ
@@ -90,7 +90,7 @@ message-is e = any (message-octets e) (λ rest is. let z : _≡_ {A = ℕ} 100 2
 
 -- ---- the whole
 
-pub line-message : (e : Event) → LineIsRfc5424 e
+pub line-message : (e : LineEvent) → LineIsRfc5424 e
 unfolding lineOf
 line-message e =
     let few = severity-few (e .msgid) in
@@ -111,7 +111,7 @@ line-message e =
       priority = record { is = said-back (facility * 8 + severityOf (e .msgid)); facilities = omega arith; severities = few };
     }
 
-pub frame-frame : (e : Event) → FrameIsRfc6587 e
+pub frame-frame : (e : LineEvent) → FrameIsRfc6587 e
 unfolding framedOf
 frame-frame e =
     let l = line-least e in
@@ -129,7 +129,7 @@ frame-frame e =
       line = refl;
     }
 
-pub stream-data : (es : List Event) → TcpData (streamOf es)
+pub stream-data : (es : List LineEvent) → TcpData (streamOf es)
 unfolding streamOf
 stream-data [] = rfc.TcpData.no-more
 stream-data (e ∷ es) = rfc.frame (framedOf e) (streamOf es) (partsOf e) (frame-frame e .frame) (stream-data es) refl

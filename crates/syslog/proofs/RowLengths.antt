@@ -12,7 +12,7 @@ use Rattle.text.proofs.Decimal.{one-digit, two-digits}
 use Rattle.text.proofs.Rows.{last-length, more-length}
 use Rattle.syslog.specs.declared.Msgid.{Msgid}
 use Rattle.syslog.specs.declared.Msgid.the-variants.{Grant, Deny, Pass, Lapse}
-use Rattle.syslog.specs.declared.Event.{Event}
+use Rattle.syslog.specs.declared.LineEvent.{LineEvent}
 use Rattle.syslog.specs.Line.{nameOf, framedOf, ReasonFits, Fits}
 use Rattle.syslog.specs.Reading.{StreamSays, ends, breaks, more}
 use Rattle.syslog.specs.Rows.{mostStream, eventsHeader, eventRow, refusedRow, eventRows, streamRows, longRows}
@@ -31,7 +31,7 @@ reason-few Deny reason f = omega (arith, f .1)
 reason-few Pass reason f = omega (arith, f)
 reason-few Lapse reason f = omega (arith, f)
 
-row-short : (e : Event) → Fits e → length (eventRow e) ≤ length (framedOf e)
+row-short : (e : LineEvent) → Fits e → length (eventRow e) ≤ length (framedOf e)
 unfolding eventRow
 row-short e f =
     let numbers = rowOfNumbers (e .door) (e .person ∷ e .reason ∷ []) in
@@ -52,7 +52,7 @@ refused-short : length (refusedRow notALineNo) ≤ 12
 unfolding refusedRow decimal digits rowOfNumbers
 refused-short = omega arith
 
-rows-few : {s : List ℕ} {at : ℕ} {es : List Event} {whole : Bool} → StreamSays s at es whole → length (eventRows es whole) ≤ length s - at + 12
+rows-few : {s : List ℕ} {at : ℕ} {es : List LineEvent} {whole : Bool} → StreamSays s at es whole → length (eventRows es whole) ≤ length s - at + 12
 unfolding eventRows
 rows-few (ends x) = omega arith
 rows-few (breaks x) = let r = refused-short in omega arith
@@ -65,7 +65,7 @@ rows-few (more {e = e} {es = es} {whole = whole} x on) =
     omega (arith, onward .0, onward .1)
 
 -- the list of the program `read_events` has room for every text of a stream
-pub stream-rows-few : (s : List ℕ) (es : List Event) (whole : Bool) → length s ≤ mostStream → StreamSays s 0 es whole → length (streamRows es whole) ≤ mostStream + 64
+pub stream-rows-few : (s : List ℕ) (es : List LineEvent) (whole : Bool) → length s ≤ mostStream → StreamSays s 0 es whole → length (streamRows es whole) ≤ mostStream + 64
 unfolding streamRows
 stream-rows-few s es whole h says = let a = length-append eventsHeader (eventRows es whole) in let b = rows-few says in omega arith
 

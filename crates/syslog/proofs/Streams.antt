@@ -5,7 +5,7 @@ use mathlib.Core.Bool.{Bool, true, false}
 use mathlib.Core.List.{List, [], _∷_, _++_, append-assoc, append-nil}
 use native.Mathlib.Omega.{arith}
 use lib.ListN.{length, length-append}
-use Rattle.syslog.specs.declared.Event.{Event}
+use Rattle.syslog.specs.declared.LineEvent.{LineEvent}
 use Rattle.syslog.specs.declared.LineRead.{LineRead}
 use Rattle.syslog.specs.declared.LineRead.the-variants as line
 use Rattle.syslog.specs.declared.FrameRead.{FrameRead}
@@ -22,7 +22,7 @@ line-told-once text (line.Is e) line.NotOurs x y = absurd (y e x)
 line-told-once text line.NotOurs (line.Is f) x y = absurd (x f y)
 line-told-once text line.NotOurs line.NotOurs x y = refl
 
-pub no-end : {s : List ℕ} {at : ℕ} {e : Event} {next : ℕ} → FrameAt s at e next → at ≡ length s → ⊥
+pub no-end : {s : List ℕ} {at : ℕ} {e : LineEvent} {next : ℕ} → FrameAt s at e next → at ≡ length s → ⊥
 no-end x e = let o = frame-onward x in omega (arith, o .0, o .1)
 
 pub frame-told-once : (s : List ℕ) (at : ℕ) (a b : FrameRead) → ReadsFrame s at a → ReadsFrame s at b → a ≡ b
@@ -38,7 +38,7 @@ frame-told-once s at frame.NotOurs frame.NotOurs x y = refl
 
 -- ---- one reading of a stream
 
-pub says-once : {s : List ℕ} {at : ℕ} {es fs : List Event} {v w : Bool} → StreamSays s at es v → StreamSays s at fs w → (es ≡ fs) × (v ≡ w)
+pub says-once : {s : List ℕ} {at : ℕ} {es fs : List LineEvent} {v w : Bool} → StreamSays s at es v → StreamSays s at fs w → (es ≡ fs) × (v ≡ w)
 says-once (ends x) (ends y) = (refl, refl)
 says-once (ends x) (breaks y) = absurd (y .0 x)
 says-once (ends x) (more y on) = absurd (no-end y x)
@@ -54,7 +54,7 @@ says-once {s} {w = w} (more x on) (more {es = fs} y on′) =
 
 -- ---- a stream of frames
 
-behind-front : (es : List Event) (front : List ℕ) → AllFit es → StreamSays (front ++ streamOf es) (length front) es true
+behind-front : (es : List LineEvent) (front : List ℕ) → AllFit es → StreamSays (front ++ streamOf es) (length front) es true
 unfolding streamOf
 behind-front [] front no-more = ends (ap length (sym (append-nil front)))
 behind-front (e ∷ es) front (fits f on) =
@@ -64,22 +64,22 @@ behind-front (e ∷ es) front (fits f on) =
     (record { fits = f; front = front; rest = streamOf es; split = refl; place = refl; behind-it = refl })
     (rw (append-assoc, l) at rest)
 
-pub stream-back : (es : List Event) → AllFit es → StreamSays (streamOf es) 0 es true
+pub stream-back : (es : List LineEvent) → AllFit es → StreamSays (streamOf es) 0 es true
 stream-back es f = behind-front es [] f
 
 -- ---- every stream reads as something
 
-pub record Reading (s : List ℕ) (at : ℕ) : Type 0 where
-  pub events : List Event
+pub record StreamReading (s : List ℕ) (at : ℕ) : Type 0 where
+  pub events : List LineEvent
   pub whole : Bool
   pub says : StreamSays s at events whole
 
 -- `left` bounds what is left of the stream
-reads-on : (s : List ℕ) (left at : ℕ) → length s - at < left → Reading s at
+reads-on : (s : List ℕ) (left at : ℕ) → length s - at < left → StreamReading s at
 reads-on s zero at h = absurd (omega arith)
 reads-on s (suc left) at h = go (frame-reads s at .0) (frame-reads s at .1) (reads-on s left)
   where
-    go : (told : FrameRead) → ReadsFrame s at told → ((next : ℕ) → length s - next < left → Reading s next) → Reading s at
+    go : (told : FrameRead) → ReadsFrame s at told → ((next : ℕ) → length s - next < left → StreamReading s next) → StreamReading s at
     go frame.End x on = record { events = []; whole = true; says = ends x }
     go frame.NotOurs x on = record { events = []; whole = false; says = breaks x }
     go (frame.Frame e next) x on =
@@ -87,5 +87,5 @@ reads-on s (suc left) at h = go (frame-reads s at .0) (frame-reads s at .1) (rea
         let r = on next (omega (arith, o .0, o .1)) in
         record { events = e ∷ r .events; whole = r .whole; says = more x (r .says) }
 
-pub stream-reads : (s : List ℕ) (at : ℕ) → Reading s at
+pub stream-reads : (s : List ℕ) (at : ℕ) → StreamReading s at
 stream-reads s at = reads-on s (length s + 1) at (omega arith)

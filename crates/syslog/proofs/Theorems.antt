@@ -8,14 +8,14 @@
 --     lines-apart            no two events share a line
 --     streams-apart          no two lists of events share a run of framed lines
 --     stream-read-back       reading frame after frame gives the very list of events, and stops at the end
---     one-reading            and no stream has two readings
+--     one-stream-reading            and no stream has two readings
 --     every-line-reads, every-frame-reads, every-stream-reads      and each list of bytes has one
 use Prim.Native.Nat.{ℕ}
 use mathlib.Core.Path.{_≡_, refl, sym, ap, subst, _∙_}
 use mathlib.Core.Bool.{Bool, true}
 use mathlib.Core.List.{List}
 use lib.ListN.{length, take}
-use Rattle.syslog.specs.declared.Event.{Event}
+use Rattle.syslog.specs.declared.LineEvent.{LineEvent}
 use Rattle.syslog.specs.declared.LineWritten.{LineWritten}
 use Rattle.syslog.specs.declared.LineWritten.the-variants as writing
 use Rattle.syslog.specs.declared.LineRead.{LineRead}
@@ -29,16 +29,16 @@ use Rattle.syslog.specs.Reading.{LineIs, ReadsLine, ReadsFrame, StreamSa
 use Rattle.syslog.specs.Claims.{LineIsRfc5424, FrameIsRfc6587, ReadBack, OnlyLinesRead, OnlyFramesRead}
 use Rattle.syslog.proofs.Message.{line-message, frame-frame, stream-data}
 use Rattle.syslog.proofs.Finding.{line-once, line-reads, frame-reads}
-use Rattle.syslog.proofs.Streams.{line-told-once, frame-told-once, says-once, stream-back, Reading, stream-reads}
+use Rattle.syslog.proofs.Streams.{line-told-once, frame-told-once, says-once, stream-back, StreamReading, stream-reads}
 use Rattle.syslog.proofs.Written.{written-line, written-frame}
 
-pub lines-are-rfc5424 : (e : Event) → LineIsRfc5424 e
+pub lines-are-rfc5424 : (e : LineEvent) → LineIsRfc5424 e
 lines-are-rfc5424 = line-message
 
-pub frames-are-rfc6587 : (e : Event) → FrameIsRfc6587 e
+pub frames-are-rfc6587 : (e : LineEvent) → FrameIsRfc6587 e
 frames-are-rfc6587 = frame-frame
 
-pub streams-are-tcp-data : (es : List Event) → TcpData (streamOf es)
+pub streams-are-tcp-data : (es : List LineEvent) → TcpData (streamOf es)
 streams-are-tcp-data = stream-data
 
 pub only-lines-read : (text : List ℕ) (told : LineRead) → ReadsLine text told → OnlyLinesRead text told
@@ -61,7 +61,7 @@ only-frames-read s at told x =
       refused-back = λ inside none. frame-told-once s at told frame.NotOurs x (inside, none);
     }
 
-pub read-back : (e : Event) → Fits e → ReadBack e
+pub read-back : (e : LineEvent) → Fits e → ReadBack e
 read-back e f =
     let is : LineIs (lineOf e) e = record { fits = f; is = refl } in
     record {
@@ -71,16 +71,16 @@ read-back e f =
       frame-written = written-frame e f;
     }
 
-pub lines-apart : (e f : Event) → Fits e → Fits f → lineOf e ≡ lineOf f → e ≡ f
+pub lines-apart : (e f : LineEvent) → Fits e → Fits f → lineOf e ≡ lineOf f → e ≡ f
 lines-apart e f a b same = line-once (record { fits = a; is = refl }) (record { fits = b; is = same })
 
-pub one-reading : (s : List ℕ) (at : ℕ) (es fs : List Event) (v w : Bool) → StreamSays s at es v → StreamSays s at fs w → (es ≡ fs) × (v ≡ w)
-one-reading s at es fs v w x y = says-once x y
+pub one-stream-reading : (s : List ℕ) (at : ℕ) (es fs : List LineEvent) (v w : Bool) → StreamSays s at es v → StreamSays s at fs w → (es ≡ fs) × (v ≡ w)
+one-stream-reading s at es fs v w x y = says-once x y
 
-pub stream-read-back : (es : List Event) → AllFit es → StreamSays (streamOf es) 0 es true
+pub stream-read-back : (es : List LineEvent) → AllFit es → StreamSays (streamOf es) 0 es true
 stream-read-back = stream-back
 
-pub streams-apart : (es fs : List Event) → AllFit es → AllFit fs → streamOf es ≡ streamOf fs → es ≡ fs
+pub streams-apart : (es fs : List LineEvent) → AllFit es → AllFit fs → streamOf es ≡ streamOf fs → es ≡ fs
 streams-apart es fs a b same = says-once (stream-back es a) (subst (λ (s : List ℕ). StreamSays s 0 fs true) (sym same) (stream-back fs b)) .0
 
 pub every-line-reads : (text : List ℕ) → (told : LineRead) × ReadsLine text told
@@ -89,5 +89,5 @@ every-line-reads = line-reads
 pub every-frame-reads : (s : List ℕ) (at : ℕ) → (told : FrameRead) × ReadsFrame s at told
 every-frame-reads = frame-reads
 
-pub every-stream-reads : (s : List ℕ) → Reading s 0
+pub every-stream-reads : (s : List ℕ) → StreamReading s 0
 every-stream-reads s = stream-reads s 0

@@ -14,7 +14,7 @@ use Rattle.findings.specs.declared.Printed.the-variants as printed
 use Rattle.tables.specs.Below.{Tells}
 use Rattle.text.specs.Wrote.{lastPlace, behind, Wrote}
 use Rattle.text.specs.Printed.{fitsIn, printedOf, written, Prints}
-use Rattle.syslog.specs.declared.Event.{Event}
+use Rattle.syslog.specs.declared.LineEvent.{LineEvent}
 use Rattle.syslog.specs.declared.LineWritten.{LineWritten}
 use Rattle.syslog.specs.declared.LineWritten.the-variants.{Text, Unfit, TooShort}
 use Rattle.syslog.specs.Line.{lineOf, framedOf, Fits, fitsLine}
@@ -25,11 +25,11 @@ use Rattle.syslog.proofs.Fit.{fits-tells}
 -- ---- the functions that write
 
 -- an event that doesn't fit
-pub writes-unfit : {e : Event} {text out : List ℕ} → fitsLine e ≡ false → Writes e text out Unfit out
+pub writes-unfit : {e : LineEvent} {text out : List ℕ} → fitsLine e ≡ false → Writes e text out Unfit out
 unfolding writtenOf listWith
 writes-unfit f = record { answer = rw f; list = rw f }
 
-pub writes-printed : {e : Event} {text out after : List ℕ} {told : Printed} → fitsLine e ≡ true → Prints text out told after → Writes e text out (asLine told) after
+pub writes-printed : {e : LineEvent} {text out after : List ℕ} {told : Printed} → fitsLine e ≡ true → Prints text out told after → Writes e text out (asLine told) after
 unfolding writtenOf listWith printedOf
 writes-printed {e} {text} {out} {after} {told} f p = record { answer = rw f (ap asLine (p .answer) ∙ go (fitsIn text out)); list = rw f (p .list) }
   where
@@ -65,7 +65,7 @@ record Front (text before after : List ℕ) (n : ℕ) : Type 0 where
   size : n ≡ length text
   list : after ≡ text ++ drop (length text) before
 
-at-front : {e : Event} {text before after : List ℕ} {n : ℕ} → Fits e → Writes e text before (Text n) after → Front text before after n
+at-front : {e : LineEvent} {text before after : List ℕ} {n : ℕ} → Fits e → Writes e text before (Text n) after → Front text before after n
 unfolding writtenOf listWith written fitsIn
 at-front {e} {text} {before} {after} {n} f w = go (fitsIn text before) refl
   where
@@ -81,10 +81,10 @@ at-front {e} {text} {before} {after} {n} f w = go (fitsIn text before) refl
         }
     go false b = let z : Text n ≡ TooShort = w .answer ∙ rw (ok, b) in let y : _≡_ {A = ℕ} 0 1 = cc in absurd (omega arith)
 
-pub written-line : (e : Event) → Fits e → (before after : List ℕ) (n : ℕ) → Writes e (lineOf e) before (Text n) after → take n after ≡ lineOf e
+pub written-line : (e : LineEvent) → Fits e → (before after : List ℕ) (n : ℕ) → Writes e (lineOf e) before (Text n) after → take n after ≡ lineOf e
 written-line e f before after n w = let x = at-front f w in rw (x .size, x .list) (take-append-seam (lineOf e) (drop (length (lineOf e)) before))
 
-pub written-frame : (e : Event) → Fits e → (before after : List ℕ) (n : ℕ) → Writes e (framedOf e) before (Text n) after → FrameAt after 0 e n
+pub written-frame : (e : LineEvent) → Fits e → (before after : List ℕ) (n : ℕ) → Writes e (framedOf e) before (Text n) after → FrameAt after 0 e n
 written-frame e f before after n w =
     let x = at-front f w in
     record { fits = f; front = []; rest = drop (length (framedOf e)) before; split = x .list; place = refl; behind-it = x .size ∙ sym (zero-add (length (framedOf e))) }

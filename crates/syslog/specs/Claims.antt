@@ -4,19 +4,19 @@ use mathlib.Core.Path.{_≡_}
 use mathlib.Core.List.{List, [], _∷_, _++_}
 use lib.ListN.{length, take}
 use Rattle.text.specs.Text.{decimal}
-use Rattle.syslog.specs.declared.Event.{Event}
+use Rattle.syslog.specs.declared.LineEvent.{LineEvent}
 use Rattle.syslog.specs.declared.LineWritten.the-variants as writing
 use Rattle.syslog.specs.declared.LineRead.{LineRead}
 use Rattle.syslog.specs.declared.LineRead.the-variants as line
 use Rattle.syslog.specs.declared.FrameRead.{FrameRead}
 use Rattle.syslog.specs.declared.FrameRead.the-variants as frame
 use Rattle.syslog.specs.Line.{facility, severityOf, nameOf, messageOf, lineOf, framedOf}
-use Rattle.syslog.specs.Rfc.{said, Priority, nilValue, SyslogMsg, IsSyslogMsg, IsFrame}
+use Rattle.syslog.specs.Rfc.{numberSaid, Priority, nilValue, SyslogMsg, IsSyslogMsg, IsFrame}
 use Rattle.syslog.specs.Reading.{LineIs, ReadsLine, FrameAt}
 use Rattle.syslog.specs.Lent.{Writes}
 
 -- the parts of an event's line: "every other header field nil"
-abbrev pub partsOf : Event → SyslogMsg
+abbrev pub partsOf : LineEvent → SyslogMsg
 partsOf e =
     record {
       pri = decimal (facility * 8 + severityOf (e .msgid));
@@ -31,18 +31,18 @@ partsOf e =
     }
 
 -- an event's line is a message by RFC 5424 with these parts, and its PRI says the facility and the severity
-pub record LineIsRfc5424 (e : Event) : Type 0 where
+pub record LineIsRfc5424 (e : LineEvent) : Type 0 where
   pub message : IsSyslogMsg (lineOf e) (partsOf e)
-  pub priority : Priority (said (partsOf e .pri)) facility (severityOf (e .msgid))
+  pub priority : Priority (numberSaid (partsOf e .pri)) facility (severityOf (e .msgid))
 
 -- an event's frame is one by RFC 6587 with the same parts, and its number is the line's length
-pub record FrameIsRfc6587 (e : Event) : Type 0 where
+pub record FrameIsRfc6587 (e : LineEvent) : Type 0 where
   pub frame : IsFrame (framedOf e) (partsOf e)
   pub count : frame .count ≡ decimal (length (lineOf e))
   pub line : frame .message ≡ lineOf e
 
 -- what is written for an event reads as that event: the line, and the frame at the front of a stream
-pub record ReadBack (e : Event) : Type 0 where
+pub record ReadBack (e : LineEvent) : Type 0 where
   pub line-reads : LineIs (lineOf e) e
   pub line-once : (told : LineRead) → ReadsLine (lineOf e) told → told ≡ line.Is e
   -- whatever the lent list held before: the bytes that are told of are read back
@@ -51,16 +51,16 @@ pub record ReadBack (e : Event) : Type 0 where
 
 -- what is told of some bytes is an event exactly when they are its line, and 15 exactly when they are no line of ours
 pub record OnlyLinesRead (text : List ℕ) (told : LineRead) : Type 0 where
-  pub event-yes : (e : Event) → told ≡ line.Is e → LineIs text e
-  pub event-back : (e : Event) → LineIs text e → told ≡ line.Is e
-  pub refused-yes : told ≡ line.NotOurs → (e : Event) → LineIs text e → ⊥
-  pub refused-back : ((e : Event) → LineIs text e → ⊥) → told ≡ line.NotOurs
+  pub event-yes : (e : LineEvent) → told ≡ line.Is e → LineIs text e
+  pub event-back : (e : LineEvent) → LineIs text e → told ≡ line.Is e
+  pub refused-yes : told ≡ line.NotOurs → (e : LineEvent) → LineIs text e → ⊥
+  pub refused-back : ((e : LineEvent) → LineIs text e → ⊥) → told ≡ line.NotOurs
 
 -- the same of the frame at a place of a stream, and of the stream's end
 pub record OnlyFramesRead (s : List ℕ) (at : ℕ) (told : FrameRead) : Type 0 where
-  pub event-yes : (e : Event) (next : ℕ) → told ≡ frame.Frame e next → FrameAt s at e next
-  pub event-back : (e : Event) (next : ℕ) → FrameAt s at e next → told ≡ frame.Frame e next
+  pub event-yes : (e : LineEvent) (next : ℕ) → told ≡ frame.Frame e next → FrameAt s at e next
+  pub event-back : (e : LineEvent) (next : ℕ) → FrameAt s at e next → told ≡ frame.Frame e next
   pub end-yes : told ≡ frame.End → at ≡ length s
   pub end-back : at ≡ length s → told ≡ frame.End
-  pub refused-yes : told ≡ frame.NotOurs → (at ≡ length s → ⊥) × ((e : Event) (next : ℕ) → FrameAt s at e next → ⊥)
-  pub refused-back : (at ≡ length s → ⊥) → ((e : Event) (next : ℕ) → FrameAt s at e next → ⊥) → told ≡ frame.NotOurs
+  pub refused-yes : told ≡ frame.NotOurs → (at ≡ length s → ⊥) × ((e : LineEvent) (next : ℕ) → FrameAt s at e next → ⊥)
+  pub refused-back : (at ≡ length s → ⊥) → ((e : LineEvent) (next : ℕ) → FrameAt s at e next → ⊥) → told ≡ frame.NotOurs

@@ -7,7 +7,7 @@ use lib.Dec.{eqb, ltb, leb}
 use Rattle.tables.specs.Tables.{andAlso}
 use Rattle.syslog.specs.declared.Msgid.{Msgid}
 use Rattle.syslog.specs.declared.Msgid.the-variants.{Grant, Deny, Pass, Lapse}
-use Rattle.syslog.specs.declared.Event.{Event}
+use Rattle.syslog.specs.declared.LineEvent.{LineEvent}
 
 -- the MSGID that begins with a letter: D, L, P, and else GRANT
 unfoldable pub msgidBy : ℕ → Msgid
@@ -38,7 +38,7 @@ abbrev pub numberFrom : List ℕ → ℕ
 numberFrom bs = numberOn 4 0 bs
 
 -- the door behind the first `=`, the person behind the second, the reason behind the third
-abbrev pub guessOf : List ℕ → Event
+abbrev pub guessOf : List ℕ → LineEvent
 guessOf text =
     record {
       msgid = msgidIn text;

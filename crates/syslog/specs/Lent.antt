@@ -8,21 +8,21 @@ use lib.ListN.{length}
 use Rattle.findings.specs.declared.Printed.{Printed}
 use Rattle.findings.specs.declared.Printed.the-variants as printed
 use Rattle.text.specs.Printed.{fitsIn, written}
-use Rattle.syslog.specs.declared.Event.{Event}
+use Rattle.syslog.specs.declared.LineEvent.{LineEvent}
 use Rattle.syslog.specs.declared.LineWritten.{LineWritten}
 use Rattle.syslog.specs.declared.LineWritten.the-variants.{Text, Unfit, TooShort}
 use Rattle.syslog.specs.Line.{fitsLine}
 
 -- the text of an event is told by its length
-unfoldable pub writtenOf : Event → List ℕ → List ℕ → LineWritten
+unfoldable pub writtenOf : LineEvent → List ℕ → List ℕ → LineWritten
 writtenOf e text out = cond (fitsLine e) (cond (fitsIn text out) (Text (length text)) TooShort) Unfit
 
 -- and stands at the list's front with the rest unaltered; else nothing is written
-unfoldable pub listWith : Event → List ℕ → List ℕ → List ℕ
+unfoldable pub listWith : LineEvent → List ℕ → List ℕ → List ℕ
 listWith e text out = cond (fitsLine e) (written text out) out
 
 -- what is promised of writing the text of an event into a lent list: what is told, and what the list holds at exit
-pub record Writes (e : Event) (text before : List ℕ) (told : LineWritten) (after : List ℕ) : Type 0 where
+pub record Writes (e : LineEvent) (text before : List ℕ) (told : LineWritten) (after : List ℕ) : Type 0 where
   pub answer : told ≡ writtenOf e text before
   pub list : after ≡ listWith e text before
 

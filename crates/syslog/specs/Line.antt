@@ -10,7 +10,7 @@ use Rattle.tables.specs.Tables.{andAlso}
 use Rattle.text.specs.Text.{decimal}
 use Rattle.syslog.specs.declared.Msgid.{Msgid}
 use Rattle.syslog.specs.declared.Msgid.the-variants.{Grant, Deny, Pass, Lapse}
-use Rattle.syslog.specs.declared.Event.{Event}
+use Rattle.syslog.specs.declared.LineEvent.{LineEvent}
 
 -- ---- the parts of a line
 
@@ -49,11 +49,11 @@ reasonPart Pass reason = []
 reasonPart Lapse reason = []
 
 -- `door=3 person=1`: "Numbers are decimal, without needless zeros."
-abbrev pub messageOf : Event → List ℕ
+abbrev pub messageOf : LineEvent → List ℕ
 messageOf e = doorMark ++ (decimal (e .door) ++ (personMark ++ (decimal (e .person) ++ reasonPart (e .msgid) (e .reason))))
 
 -- `<86>1 - - - - GRANT - `: "The time is nil", and so is every other field of the header
-unfoldable pub lineOf : Event → List ℕ
+unfoldable pub lineOf : LineEvent → List ℕ
 lineOf e =
     60 ∷ (decimal (facility * 8 + severityOf (e .msgid))
     ++ (62 ∷ 49 ∷ 32 ∷ 45 ∷ 32 ∷ 45 ∷ 32 ∷ 45 ∷ 32 ∷ 45 ∷ 32 ∷ (nameOf (e .msgid) ++ (32 ∷ 45 ∷ 32 ∷ messageOf e))))
@@ -64,15 +64,15 @@ headOf m =
     60 ∷ (decimal (facility * 8 + severityOf m)
     ++ (62 ∷ 49 ∷ 32 ∷ 45 ∷ 32 ∷ 45 ∷ 32 ∷ 45 ∷ 32 ∷ 45 ∷ 32 ∷ (nameOf m ++ (32 ∷ 45 ∷ 32 ∷ doorMark))))
 
-abbrev pub tailOf : Event → List ℕ
+abbrev pub tailOf : LineEvent → List ℕ
 tailOf e = decimal (e .door) ++ (personMark ++ (decimal (e .person) ++ reasonPart (e .msgid) (e .reason)))
 
 -- "On a stream the octet count of RFC 6587 stands in front, here `37 `."
-unfoldable pub framedOf : Event → List ℕ
+unfoldable pub framedOf : LineEvent → List ℕ
 framedOf e = decimal (length (lineOf e)) ++ (32 ∷ lineOf e)
 
 -- a stream: frames, one behind the other
-unfoldable pub streamOf : List Event → List ℕ
+unfoldable pub streamOf : List LineEvent → List ℕ
 streamOf [] = []
 streamOf (e ∷ es) = framedOf e ++ streamOf es
 
@@ -89,7 +89,7 @@ ReasonFits Deny reason = (1 ≤ reason) × (reason ≤ 3)
 ReasonFits Pass reason = reason ≡ 0
 ReasonFits Lapse reason = reason ≡ 0
 
-pub record Fits (e : Event) : Type 0 where
+pub record Fits (e : LineEvent) : Type 0 where
   pub door : e .door ≤ mostNumber
   pub person : e .person ≤ mostNumber
   pub reason : ReasonFits (e .msgid) (e .reason)
@@ -101,10 +101,10 @@ reasonFits Deny reason = andAlso (leb 1 reason) (leb reason 3)
 reasonFits Pass reason = eqb reason 0
 reasonFits Lapse reason = eqb reason 0
 
-unfoldable pub fitsLine : Event → Bool
+unfoldable pub fitsLine : LineEvent → Bool
 fitsLine e = andAlso (leb (e .door) mostNumber) (andAlso (leb (e .person) mostNumber) (reasonFits (e .msgid) (e .reason)))
 
 -- each event of a list has a line
-pub data AllFit : List Event → Type 0 where
+pub data AllFit : List LineEvent → Type 0 where
   no-more : AllFit []
-  fits : {e : Event} {es : List Event} → Fits e → AllFit es → AllFit (e ∷ es)
+  fits : {e : LineEvent} {es : List LineEvent} → Fits e → AllFit es → AllFit (e ∷ es)

@@ -5,7 +5,7 @@ use mathlib.Core.Path.{_≡_}
 use mathlib.Core.Bool.{Bool, true, false}
 use mathlib.Core.List.{List, [], _∷_, _++_}
 use lib.ListN.{length}
-use Rattle.syslog.specs.declared.Event.{Event}
+use Rattle.syslog.specs.declared.LineEvent.{LineEvent}
 use Rattle.syslog.specs.declared.LineRead.{LineRead}
 use Rattle.syslog.specs.declared.LineRead.the-variants as line
 use Rattle.syslog.specs.declared.FrameRead.{FrameRead}
@@ -13,17 +13,17 @@ use Rattle.syslog.specs.declared.FrameRead.the-variants as frame
 use Rattle.syslog.specs.Line.{lineOf, framedOf, Fits}
 
 -- the bytes are the line of an event that fits, and nothing more
-pub record LineIs (text : List ℕ) (e : Event) : Type 0 where
+pub record LineIs (text : List ℕ) (e : LineEvent) : Type 0 where
   pub fits : Fits e
   pub is : text ≡ lineOf e
 
 -- what is told of them: that event, or that there is none
 abbrev pub ReadsLine : List ℕ → LineRead → Type 0
 ReadsLine text (line.Is e) = LineIs text e
-ReadsLine text line.NotOurs = (e : Event) → LineIs text e → ⊥
+ReadsLine text line.NotOurs = (e : LineEvent) → LineIs text e → ⊥
 
 -- at a place of a stream begins the frame of an event that fits, and `next` is the place behind it
-pub record FrameAt (s : List ℕ) (at : ℕ) (e : Event) (next : ℕ) : Type 0 where
+pub record FrameAt (s : List ℕ) (at : ℕ) (e : LineEvent) (next : ℕ) : Type 0 where
   pub fits : Fits e
   pub front : List ℕ
   pub rest : List ℕ
@@ -35,11 +35,11 @@ pub record FrameAt (s : List ℕ) (at : ℕ) (e : Event) (next : ℕ) : Type 0 w
 abbrev pub ReadsFrame : List ℕ → ℕ → FrameRead → Type 0
 ReadsFrame s at (frame.Frame e next) = FrameAt s at e next
 ReadsFrame s at frame.End = at ≡ length s
-ReadsFrame s at frame.NotOurs = (at ≡ length s → ⊥) × ((e : Event) (next : ℕ) → FrameAt s at e next → ⊥)
+ReadsFrame s at frame.NotOurs = (at ≡ length s → ⊥) × ((e : LineEvent) (next : ℕ) → FrameAt s at e next → ⊥)
 
 -- a stream from a place on, frame after frame: its events, and whether it ends behind them (`true`) or has something else there
-pub data StreamSays (s : List ℕ) : ℕ → List Event → Bool → Type 0 where
+pub data StreamSays (s : List ℕ) : ℕ → List LineEvent → Bool → Type 0 where
   ends : {at : ℕ} → ReadsFrame s at frame.End → StreamSays s at [] true
   breaks : {at : ℕ} → ReadsFrame s at frame.NotOurs → StreamSays s at [] false
-  more : {at next : ℕ} {e : Event} {es : List Event} {whole : Bool} → ReadsFrame s at (frame.Frame e next) → StreamSays s next es whole
+  more : {at next : ℕ} {e : LineEvent} {es : List LineEvent} {whole : Bool} → ReadsFrame s at (frame.Frame e next) → StreamSays s next es whole
       → StreamSays s at (e ∷ es) whole

@@ -10,39 +10,39 @@ use lib.ListN.{length}
 -- ---- bytes
 
 -- each byte of a text
-pub data Each (Byte : ℕ → Type 0) : List ℕ → Type 0 where
-  no-more : Each Byte []
-  and : {b : ℕ} {bs : List ℕ} → Byte b → Each Byte bs → Each Byte (b ∷ bs)
+pub data EachByte (Byte : ℕ → Type 0) : List ℕ → Type 0 where
+  no-more : EachByte Byte []
+  and : {b : ℕ} {bs : List ℕ} → Byte b → EachByte Byte bs → EachByte Byte (b ∷ bs)
 
 abbrev pub From_To_ : ℕ → ℕ → ℕ → Type 0
 From_To_ least most b = (least ≤ b) × (b ≤ most)
 
 -- "OCTET = %d00-255"
-abbrev pub Octet : ℕ → Type 0
-Octet b = b ≤ 255
+abbrev pub OCTET : ℕ → Type 0
+OCTET b = b ≤ 255
 
 -- "DIGIT = %d48 / NONZERO-DIGIT", "NONZERO-DIGIT = %d49-57"
-abbrev pub Digit : ℕ → Type 0
-Digit = From_To_ 48 57
+abbrev pub DIGIT : ℕ → Type 0
+DIGIT = From_To_ 48 57
 
-abbrev pub NonzeroDigit : ℕ → Type 0
-NonzeroDigit = From_To_ 49 57
+abbrev pub NONZERO-DIGIT : ℕ → Type 0
+NONZERO-DIGIT = From_To_ 49 57
 
 -- "PRINTUSASCII = %d33-126"
-abbrev pub PrintUsAscii : ℕ → Type 0
-PrintUsAscii = From_To_ 33 126
+abbrev pub PRINTUSASCII : ℕ → Type 0
+PRINTUSASCII = From_To_ 33 126
 
 -- "NILVALUE = "-""
 abbrev pub nilValue : List ℕ
 nilValue = 45 ∷ []
 
 -- the number that digits say, behind those that were read
-unfoldable pub saidFrom : ℕ → List ℕ → ℕ
-saidFrom n [] = n
-saidFrom n (b ∷ bs) = saidFrom (n * 10 + (b - 48)) bs
+unfoldable pub numberSaidFrom : ℕ → List ℕ → ℕ
+numberSaidFrom n [] = n
+numberSaidFrom n (b ∷ bs) = numberSaidFrom (n * 10 + (b - 48)) bs
 
-abbrev pub said : List ℕ → ℕ
-said digits = saidFrom 0 digits
+abbrev pub numberSaid : List ℕ → ℕ
+numberSaid digits = numberSaidFrom 0 digits
 
 -- "UTF-8-STRING = *OCTET ; UTF-8 string as specified in RFC 3629": "UTF8-octets = *( UTF8-char )", and "UTF8-tail = %x80-BF"
 abbrev pub Tail : ℕ → Type 0
@@ -67,10 +67,10 @@ pub data Utf8 : List ℕ → Type 0 where
 
 -- "PRI = "<" PRIVAL ">"", "PRIVAL = 1*3DIGIT ; range 0 .. 191"
 pub record PriVal (digits : List ℕ) : Type 0 where
-  pub each : Each Digit digits
+  pub each : EachByte DIGIT digits
   pub some : 1 ≤ length digits
   pub few : length digits ≤ 3
-  pub range : said digits ≤ 191
+  pub range : numberSaid digits ≤ 191
 
 -- "The Priority value is calculated by first multiplying the Facility number by 8 and then adding the numerical value of the
 -- Severity."; facilities are 0 to 23 (table 1), severities 0 to 7 (table 2)
@@ -81,11 +81,11 @@ pub record Priority (value facility severity : ℕ) : Type 0 where
 
 -- "VERSION = NONZERO-DIGIT 0*2DIGIT"
 pub data Version : List ℕ → Type 0 where
-  version : {b : ℕ} {bs : List ℕ} → NonzeroDigit b → Each Digit bs → length bs ≤ 2 → Version (b ∷ bs)
+  version : {b : ℕ} {bs : List ℕ} → NONZERO-DIGIT b → EachByte DIGIT bs → length bs ≤ 2 → Version (b ∷ bs)
 
 -- "HOSTNAME = NILVALUE / 1*255PRINTUSASCII", and the same of the others with their own width: nil is printable too
 pub record Printable (most : ℕ) (text : List ℕ) : Type 0 where
-  pub each : Each PrintUsAscii text
+  pub each : EachByte PRINTUSASCII text
   pub some : 1 ≤ length text
   pub few : length text ≤ most
 
@@ -104,14 +104,14 @@ MsgId = Printable 32
 
 -- "2DIGIT" with a range
 pub record TwoDigits (least most : ℕ) (digits : List ℕ) : Type 0 where
-  pub each : Each Digit digits
+  pub each : EachByte DIGIT digits
   pub two : length digits ≡ 2
-  pub range : From_To_ least most (said digits)
+  pub range : From_To_ least most (numberSaid digits)
 
 -- "TIME-SECFRAC = "." 1*6DIGIT", which may be left out
 pub data Fraction : List ℕ → Type 0 where
   left-out : Fraction []
-  fraction : {bs : List ℕ} → Each Digit bs → 1 ≤ length bs → length bs ≤ 6 → Fraction (46 ∷ bs)
+  fraction : {bs : List ℕ} → EachByte DIGIT bs → 1 ≤ length bs → length bs ≤ 6 → Fraction (46 ∷ bs)
 
 -- "TIME-OFFSET = "Z" / TIME-NUMOFFSET", "TIME-NUMOFFSET = ("+" / "-") TIME-HOUR ":" TIME-MINUTE"
 pub data Offset : List ℕ → Type 0 where
@@ -132,7 +132,7 @@ pub record Moment (text : List ℕ) : Type 0 where
   pub zone : List ℕ
   pub is : text ≡ year ++ (45 ∷ (month ++ (45 ∷ (day ++ (84 ∷ (hour ++ (58 ∷ (minute ++ (58 ∷ (second ++ (parts-of-second ++ zone)))))))))))
   pub four-digits : length year ≡ 4
-  pub years : Each Digit year
+  pub years : EachByte DIGIT year
   pub months : TwoDigits 1 12 month
   pub days : TwoDigits 1 31 day
   pub hours : TwoDigits 0 23 hour
@@ -149,10 +149,10 @@ Timestamp text = (text ≡ nilValue) ⊎ Moment text
 
 -- "SD-NAME = 1*32PRINTUSASCII ; except '=', SP, ']', %d34 (")"
 abbrev pub NameByte : ℕ → Type 0
-NameByte b = PrintUsAscii b × (b ≡ 61 → ⊥) × (b ≡ 93 → ⊥) × (b ≡ 34 → ⊥)
+NameByte b = PRINTUSASCII b × (b ≡ 61 → ⊥) × (b ≡ 93 → ⊥) × (b ≡ 34 → ⊥)
 
 pub record SdName (text : List ℕ) : Type 0 where
-  pub each : Each NameByte text
+  pub each : EachByte NameByte text
   pub some : 1 ≤ length text
   pub few : length text ≤ 32
 
@@ -188,13 +188,13 @@ abbrev pub bom : List ℕ → List ℕ
 bom text = 239 ∷ 187 ∷ 191 ∷ text
 
 pub data Msg (text : List ℕ) : Type 0 where
-  any : Each Octet text → ((rest : List ℕ) → text ≡ bom rest → ⊥) → Msg text
+  any : EachByte OCTET text → ((rest : List ℕ) → text ≡ bom rest → ⊥) → Msg text
   utf8 : (rest : List ℕ) → text ≡ bom rest → Utf8 rest → Msg text
 
 -- "[SP MSG]"
-pub data Ending : List ℕ → Type 0 where
-  no-msg : Ending []
-  msg : {text : List ℕ} → Msg text → Ending (32 ∷ text)
+pub data OptionalMsg : List ℕ → Type 0 where
+  no-msg : OptionalMsg []
+  msg : {text : List ℕ} → Msg text → OptionalMsg (32 ∷ text)
 
 -- the parts of a message, as text
 pub record SyslogMsg : Type 0 where
@@ -225,13 +225,13 @@ pub record IsSyslogMsg (text : List ℕ) (m : SyslogMsg) : Type 0 where
   pub procid : ProcId (m .procid)
   pub msgid : MsgId (m .msgid)
   pub structured-data : StructuredData (m .structured-data)
-  pub ending : Ending (m .ending)
+  pub ending : OptionalMsg (m .ending)
 
 -- ---- the frame: RFC 6587, 3.4.1
 
 -- "MSG-LEN = NONZERO-DIGIT *DIGIT"
 pub data MsgLen : List ℕ → Type 0 where
-  msg-len : {b : ℕ} {bs : List ℕ} → NonzeroDigit b → Each Digit bs → MsgLen (b ∷ bs)
+  msg-len : {b : ℕ} {bs : List ℕ} → NONZERO-DIGIT b → EachByte DIGIT bs → MsgLen (b ∷ bs)
 
 -- "SYSLOG-FRAME = MSG-LEN SP SYSLOG-MSG"; "MSG-LEN is the octet count of the SYSLOG-MSG in the SYSLOG-FRAME."
 pub record IsFrame (text : List ℕ) (m : SyslogMsg) : Type 0 where
@@ -239,7 +239,7 @@ pub record IsFrame (text : List ℕ) (m : SyslogMsg) : Type 0 where
   pub message : List ℕ
   pub is : text ≡ count ++ (32 ∷ message)
   pub digits : MsgLen count
-  pub octets : said count ≡ length message
+  pub octets : numberSaid count ≡ length message
   pub a-message : IsSyslogMsg message m
 
 -- "TCP-DATA = *SYSLOG-FRAME"

@@ -10,7 +10,7 @@ use Rattle.findings.specs.declared.Printed.{Printed}
 use Rattle.text.specs.Text.{decimal, rowOfNumbers}
 use Rattle.text.specs.Wrote.{Wrote}
 use Rattle.text.specs.Printed.{Prints}
-use Rattle.syslog.specs.declared.Event.{Event}
+use Rattle.syslog.specs.declared.LineEvent.{LineEvent}
 use Rattle.syslog.specs.Line.{nameOf}
 use Rattle.syslog.specs.Reading.{StreamSays}
 
@@ -28,19 +28,19 @@ eventsHeader =
 abbrev pub rowWith : ℕ → List ℕ → ℕ → ℕ → ℕ → List ℕ
 rowWith answer name door person reason = decimal answer ++ (comma ∷ (name ++ (comma ∷ rowOfNumbers door (person ∷ reason ∷ []))))
 
-unfoldable pub eventRow : Event → List ℕ
+unfoldable pub eventRow : LineEvent → List ℕ
 eventRow e = rowWith doneNo (nameOf (e .msgid)) (e .door) (e .person) (e .reason)
 
 unfoldable pub refusedRow : ℕ → List ℕ
 refusedRow number = rowWith number [] 0 0 0
 
 -- "for each frame"; then nothing where the stream ends, and "at the first place that is no frame of ours `15,,0,0,0`"
-unfoldable pub eventRows : List Event → Bool → List ℕ
+unfoldable pub eventRows : List LineEvent → Bool → List ℕ
 eventRows [] true = []
 eventRows [] false = refusedRow notALineNo
 eventRows (e ∷ es) whole = eventRow e ++ eventRows es whole
 
-unfoldable pub streamRows : List Event → Bool → List ℕ
+unfoldable pub streamRows : List LineEvent → Bool → List ℕ
 streamRows es whole = eventsHeader ++ eventRows es whole
 
 -- "a longer stream gives `1,,0,0,0` alone"
@@ -48,15 +48,15 @@ unfoldable pub longRows : List ℕ
 longRows = eventsHeader ++ refusedRow tooLongNo
 
 -- what is promised of the parts: the rows at a place of a list, the header and the rows, and the text in a list that may be too short.
--- Each is said of what the stream says; `every-stream-reads` and `one-reading` in proofs/Theorems.antt say that this is one thing.
+-- Each is said of what the stream says; `every-stream-reads` and `one-stream-reading` in proofs/Theorems.antt say that this is one thing.
 pub record PutsEvents (stream before : List ℕ) (at : ℕ) (after : List ℕ) (next : ℕ) : Type 0 where
-  pub puts : (es : List Event) (whole : Bool) → StreamSays stream 0 es whole → Wrote before at (eventRows es whole) after next
+  pub puts : (es : List LineEvent) (whole : Bool) → StreamSays stream 0 es whole → Wrote before at (eventRows es whole) after next
 
 pub record PutsStream (stream before after : List ℕ) (next : ℕ) : Type 0 where
-  pub puts : (es : List Event) (whole : Bool) → StreamSays stream 0 es whole → Wrote before 0 (streamRows es whole) after next
+  pub puts : (es : List LineEvent) (whole : Bool) → StreamSays stream 0 es whole → Wrote before 0 (streamRows es whole) after next
 
 pub record PrintsStream (stream before : List ℕ) (told : Printed) (after : List ℕ) : Type 0 where
-  pub prints : (es : List Event) (whole : Bool) → StreamSays stream 0 es whole → Prints (streamRows es whole) before told after
+  pub prints : (es : List LineEvent) (whole : Bool) → StreamSays stream 0 es whole → Prints (streamRows es whole) before told after
 
 -- and of the whole: a long stream is refused
 pub record PrintsEvents (stream before : List ℕ) (told : Printed) (after : List ℕ) : Type 0 where

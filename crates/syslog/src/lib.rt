@@ -21,7 +21,7 @@ pub enum Msgid {
 }
 
 // An event: what it is, at which door, the card's person, and for a denial its reason, else 0.
-pub struct Event {
+pub struct LineEvent {
     pub msgid: Msgid,
     pub door: usize,
     pub person: usize,
@@ -54,7 +54,7 @@ impl LineWritten {
 // What a list of bytes reads as.
 pub enum LineRead {
     // the line of this event
-    Is(Event),
+    Is(LineEvent),
     // no line of ours
     NotOurs,
 }
@@ -74,7 +74,7 @@ impl LineRead {
 // What begins at a place of a stream.
 pub enum FrameRead {
     // the frame of this event; the next begins there
-    Frame(Event, usize),
+    Frame(LineEvent, usize),
     // nothing: the stream ends there
     End,
     // no frame of ours

@@ -10,11 +10,11 @@ ghost use Rattle.tables.specs.Below.{Tells};
 ghost use Rattle.syslog.specs.Line.{lineOf, framedOf, fitsLine};
 ghost use Rattle.syslog.specs.Guess.{msgidBy, msgidIn, behindMark, isDigit, numberFrom, guessOf};
 ghost use Rattle.syslog.specs.Reading.{ReadsLine, ReadsFrame};
-use syslog::Event;
 use syslog::FrameRead;
+use syslog::LineEvent;
 use syslog::LineRead;
 use syslog::Msgid;
-use syslog_write::fits;
+use syslog_write::fits_line;
 use syslog_write::put_frame;
 use syslog_write::put_line;
 
@@ -102,14 +102,14 @@ fn number_from(text: &[u8]) -> usize
 }
 
 // The event that a text seems to tell.
-fn guess(text: &[u8]) -> Event
+fn guess(text: &[u8]) -> LineEvent
     ensures { λ r. ⌜ r ≡ guessOf (now (text .entry)) ⌝ }
 {
     let msgid = msgid_in(text);
     let door = behind_mark(text);
     let person = behind_mark(door);
     let reason = behind_mark(person);
-    Event {
+    LineEvent {
         msgid,
         door: number_from(door),
         person: number_from(person),
@@ -118,7 +118,7 @@ fn guess(text: &[u8]) -> Event
 }
 
 // Whether a text is the line of an event.
-fn is_line(text: &[u8], event: Event) -> bool
+fn is_line(text: &[u8], event: LineEvent) -> bool
     requires { ⌜ fitsLine event ≡ true ⌝ }
     ensures { λ r. ⌜ Tells r (now (text .entry) ≡ lineOf event) ⌝ }
 {
@@ -128,7 +128,7 @@ fn is_line(text: &[u8], event: Event) -> bool
 }
 
 // Whether a text is the frame of an event.
-fn is_frame(text: &[u8], event: Event) -> bool
+fn is_frame(text: &[u8], event: LineEvent) -> bool
     requires { ⌜ fitsLine event ≡ true ⌝ }
     ensures { λ r. ⌜ Tells r (now (text .entry) ≡ framedOf event) ⌝ }
 {
@@ -142,7 +142,7 @@ pub fn read_line(text: &[u8]) -> LineRead
     ensures { λ r. ⌜ ReadsLine (now (text .entry)) r ⌝ }
 {
     let event = guess(text);
-    if !fits(event) {
+    if !fits_line(event) {
         return LineRead::NotOurs;
     }
     if !is_line(text, event) {
@@ -168,7 +168,7 @@ pub fn read_frame(stream: &[u8], at: usize) -> FrameRead
     }
     let text = &rest[..size];
     let event = guess(text);
-    if !fits(event) {
+    if !fits_line(event) {
         return FrameRead::NotOurs;
     }
     if !is_frame(text, event) {

@@ -9,7 +9,7 @@ ghost use Rattle.text.specs.Printed.{Prints};
 ghost use Rattle.syslog.specs.Line.{reasonPart, lineOf, headOf, framedOf, reasonFits, fitsLine};
 ghost use Rattle.syslog.specs.Lent.{Writes, asLine};
 use findings::Printed;
-use syslog::Event;
+use syslog::LineEvent;
 use syslog::LineWritten;
 use syslog::Msgid;
 use text::write::put;
@@ -49,7 +49,7 @@ fn put_reason(out: &mut [u8], at: usize, msgid: Msgid, reason: usize) -> usize
 }
 
 // The line of an event.
-pub fn put_line(out: &mut [u8], at: usize, event: Event) -> usize
+pub fn put_line(out: &mut [u8], at: usize, event: LineEvent) -> usize
     ensures { λ r. ⌜ Wrote (now (out .entry)) at (lineOf event) (now (out .exit)) r ⌝ }
 {
     let msgid = event.msgid;
@@ -61,7 +61,7 @@ pub fn put_line(out: &mut [u8], at: usize, event: Event) -> usize
 }
 
 // The frame of an event: the count of its line's bytes, a blank and the line.
-pub fn put_frame(out: &mut [u8], at: usize, event: Event) -> usize
+pub fn put_frame(out: &mut [u8], at: usize, event: LineEvent) -> usize
     ensures { λ r. ⌜ Wrote (now (out .entry)) at (framedOf event) (now (out .exit)) r ⌝ }
 {
     let count = put_line(&mut out[..0], 0, event);
@@ -93,7 +93,7 @@ fn reason_fits(msgid: Msgid, reason: usize) -> bool
 }
 
 // Whether an event has a line.
-pub fn fits(event: Event) -> bool
+pub fn fits_line(event: LineEvent) -> bool
     ensures { λ r. ⌜ r ≡ fitsLine event ⌝ }
 {
     if MOST_NUMBER < event.door {
@@ -107,7 +107,7 @@ pub fn fits(event: Event) -> bool
 }
 
 // The line, if the list is long enough for it.
-fn print_line(event: Event, out: &mut [u8]) -> Printed
+fn print_line(event: LineEvent, out: &mut [u8]) -> Printed
     ensures { λ r. ⌜ Prints (lineOf event) (now (out .entry)) r (now (out .exit)) ⌝ }
 {
     let length = put_line(&mut out[..0], 0, event);
@@ -118,7 +118,7 @@ fn print_line(event: Event, out: &mut [u8]) -> Printed
 }
 
 // The frame, if the list is long enough for it.
-fn print_frame(event: Event, out: &mut [u8]) -> Printed
+fn print_frame(event: LineEvent, out: &mut [u8]) -> Printed
     ensures { λ r. ⌜ Prints (framedOf event) (now (out .entry)) r (now (out .exit)) ⌝ }
 {
     let length = put_frame(&mut out[..0], 0, event);
@@ -140,20 +140,20 @@ fn as_line(printed: Printed) -> LineWritten
 
 // Writes the line of an event into the front of a list: its length is told, and the rest of the list is unaltered. 11 if the event
 // doesn't fit, then 13 if the list is too short, and nothing is written.
-pub fn write_line(event: Event, out: &mut [u8]) -> LineWritten
+pub fn write_line(event: LineEvent, out: &mut [u8]) -> LineWritten
     ensures { λ r. ⌜ Writes event (lineOf event) (now (out .entry)) r (now (out .exit)) ⌝ }
 {
-    if !fits(event) {
+    if !fits_line(event) {
         return LineWritten::Unfit;
     }
     as_line(print_line(event, out))
 }
 
 // The same of the frame.
-pub fn write_frame(event: Event, out: &mut [u8]) -> LineWritten
+pub fn write_frame(event: LineEvent, out: &mut [u8]) -> LineWritten
     ensures { λ r. ⌜ Writes event (framedOf event) (now (out .entry)) r (now (out .exit)) ⌝ }
 {
-    if !fits(event) {
+    if !fits_line(event) {
         return LineWritten::Unfit;
     }
     as_line(print_frame(event, out))

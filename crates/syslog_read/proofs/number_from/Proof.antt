@@ -4,7 +4,7 @@ use mathlib.Core.Path.{sym, _∙_}
 use native.Mathlib.Omega.{arith}
 use borrow.Author.Tests.{not-true, not-false}
 use lib.ListN.{length}
-use Rattle.syslog.proofs.Loops.{Numbering, number-start, digit-within, number-small, number-more, number-ends, number-stops, number-full}
+use Rattle.syslog.proofs.Loops.{Numbering, number-start, digit-within, number-bounded, number-more, number-ends, number-stops, number-full}
 use borrow.Author.Needs.{needs}
 use Rattle.syslog_read.proofs.number_from.Statement.{statement}
 use Rattle.syslog_read.proofs.number_from.Tie as tie
@@ -19,7 +19,7 @@ loop-holds : tie.Need-loop-holds Inv-loop μ-loop
 loop-holds c = number-start
 
 returns : tie.Need-returns Inv-loop μ-loop
-returns c = let at = c .before .before .loop .inv in (number-ends at (c .if1 .taken), number-small at)
+returns c = let at = c .before .before .loop .inv in (number-ends at (c .if1 .taken), number-bounded at)
 
 shared-slice-read-byte : tie.Need-shared-slice-read-byte Inv-loop μ-loop
 shared-slice-read-byte c = search needs
@@ -30,10 +30,10 @@ is-digit-requires c κs = search needs
 returns-2 : tie.Need-returns-2 Inv-loop μ-loop
 returns-2 c =
     let at = c .before .before .before .before .before .loop .inv in
-    (number-stops at (c .before .before .before .if1 .left) (sym (c .before .is-digit .ensures) ∙ not-true (c .before .is-digit .result) (c .if2 .taken)), number-small at)
+    (number-stops at (c .before .before .before .if1 .left) (sym (c .before .is-digit .ensures) ∙ not-true (c .before .is-digit .result) (c .if2 .taken)), number-bounded at)
 
 mul-n : tie.Need-mul-n Inv-loop μ-loop
-mul-n c = let s = number-small (c .before .before .before .before .before .loop .inv) in omega arith
+mul-n c = let s = number-bounded (c .before .before .before .before .before .loop .inv) in omega arith
 
 sub-n : tie.Need-sub-n Inv-loop μ-loop
 sub-n c = digit-within _ (sym (c .before .is-digit .ensures) ∙ not-false (c .before .is-digit .result) (c .if2 .left)) .0
@@ -42,7 +42,7 @@ cast-n : tie.Need-cast-n Inv-loop μ-loop
 cast-n c = let d = digit-within _ (sym (c .before .is-digit .ensures) ∙ not-false (c .before .is-digit .result) (c .if2 .left)) in omega (arith, d .0, d .1)
 
 add-n : tie.Need-add-n Inv-loop μ-loop
-add-n c = let s = number-small (c .before .before .before .before .before .loop .inv) in let d = digit-within _ (sym (c .before .is-digit .ensures) ∙ not-false (c .before .is-digit .result) (c .if2 .left)) in omega (arith, d .0, d .1)
+add-n c = let s = number-bounded (c .before .before .before .before .before .loop .inv) in let d = digit-within _ (sym (c .before .is-digit .ensures) ∙ not-false (c .before .is-digit .result) (c .if2 .left)) in omega (arith, d .0, d .1)
 
 add-i : tie.Need-add-i Inv-loop μ-loop
 add-i c = search needs
@@ -56,7 +56,7 @@ loop-again c =
     (sym (c .before .is-digit .ensures) ∙ not-false (c .before .is-digit .result) (c .if2 .left))
 
 returns-3 : tie.Need-returns-3 Inv-loop μ-loop
-returns-3 c = let at = c .before .loop .inv in (number-full at (c .loop-test .left), number-small at)
+returns-3 c = let at = c .before .loop .inv in (number-full at (c .loop-test .left), number-bounded at)
 
 pub number-from-spec : {M : Type 1} → statement M
 number-from-spec =

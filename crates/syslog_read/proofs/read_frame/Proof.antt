@@ -51,8 +51,8 @@ slice-aggregate-text c = sym (length-take-le _ _ (c .before .if3 .left))
 guess-requires : tie.Need-guess-requires
 guess-requires c κs = search needs
 
-fits-requires : tie.Need-fits-requires
-fits-requires c κs = search needs
+fits-line-requires : tie.Need-fits-line-requires
+fits-line-requires c κs = search needs
 
 returns-4 : tie.Need-returns-4
 returns-4 c =
@@ -63,10 +63,10 @@ returns-4 c =
     let inside : at < length s = omega (arith, low, other) in
     let rest = tail-is s at in
     let size = c .before .before .before .before .before .number-from .ensures .0 in
-    frame-unfit s at inside (rw (size, rest) at (c .before .before .before .before .if3 .left)) (rw (size, rest) at (ap fitsLine (sym (c .before .before .guess .ensures)) ∙ sym (c .before .fits2 .ensures) ∙ not-true (c .before .fits2 .result) (c .if4 .taken)))
+    frame-unfit s at inside (rw (size, rest) at (c .before .before .before .before .if3 .left)) (rw (size, rest) at (ap fitsLine (sym (c .before .before .guess .ensures)) ∙ sym (c .before .fits-line .ensures) ∙ not-true (c .before .fits-line .result) (c .if4 .taken)))
 
 is-frame-requires : tie.Need-is-frame-requires
-is-frame-requires c κs = sym (c .before .fits2 .ensures) ∙ not-false (c .before .fits2 .result) (c .if4 .left)
+is-frame-requires c κs = sym (c .before .fits-line .ensures) ∙ not-false (c .before .fits-line .result) (c .if4 .left)
 
 returns-5 : tie.Need-returns-5
 returns-5 c =
@@ -91,7 +91,7 @@ returns-6 c =
     let inside : at < length s = omega (arith, low, other) in
     let rest = tail-is s at in
     let size = c .before .before .before .before .before .before .before .number-from .ensures .0 in
-    rw (size, rest) (frame-found s at inside (rw (size, rest) at (c .before .before .before .before .before .before .if3 .left)) (sym (c .before .before .before .fits2 .ensures) ∙ not-false (c .before .before .before .fits2 .result) (c .before .before .if4 .left)) (rw (size, rest) at (c .before .is-frame .ensures .yes (not-false (c .before .is-frame .result) (c .if5 .left)))))
+    rw (size, rest) (frame-found s at inside (rw (size, rest) at (c .before .before .before .before .before .before .if3 .left)) (sym (c .before .before .before .fits-line .ensures) ∙ not-false (c .before .before .before .fits-line .result) (c .before .before .if4 .left)) (rw (size, rest) at (c .before .is-frame .ensures .yes (not-false (c .before .is-frame .result) (c .if5 .left)))))
 
 pub read-frame-spec : {M : Type 1} → statement M
 read-frame-spec =
@@ -107,7 +107,7 @@ read-frame-spec =
     returns-3
     slice-aggregate-text
     guess-requires
-    fits-requires
+    fits-line-requires
     returns-4
     is-frame-requires
     returns-5

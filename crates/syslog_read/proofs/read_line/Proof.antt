@@ -11,21 +11,21 @@ use Rattle.syslog_read.proofs.read_line.Tie as tie
 guess-requires : tie.Need-guess-requires
 guess-requires c κs = search needs
 
-fits-requires : tie.Need-fits-requires
-fits-requires c κs = search needs
+fits-line-requires : tie.Need-fits-line-requires
+fits-line-requires c κs = search needs
 
 returns : tie.Need-returns
-returns c = line-unfit (ap fitsLine (sym (c .before .before .guess .ensures)) ∙ sym (c .before .fits2 .ensures) ∙ not-true (c .before .fits2 .result) (c .if1 .taken))
+returns c = line-unfit (ap fitsLine (sym (c .before .before .guess .ensures)) ∙ sym (c .before .fits-line .ensures) ∙ not-true (c .before .fits-line .result) (c .if1 .taken))
 
 is-line-requires : tie.Need-is-line-requires
-is-line-requires c κs = sym (c .before .fits2 .ensures) ∙ not-false (c .before .fits2 .result) (c .if1 .left)
+is-line-requires c κs = sym (c .before .fits-line .ensures) ∙ not-false (c .before .fits-line .result) (c .if1 .left)
 
 returns-2 : tie.Need-returns-2
 returns-2 c = line-other (λ is. true≢false (sym (c .before .is-line .ensures .back (is ∙ ap lineOf (sym (c .before .before .before .before .guess .ensures)))) ∙ not-true (c .before .is-line .result) (c .if2 .taken)))
 
 returns-3 : tie.Need-returns-3
-returns-3 c = line-found (sym (c .before .before .before .fits2 .ensures) ∙ not-false (c .before .before .before .fits2 .result) (c .before .before .if1 .left)) (c .before .is-line .ensures .yes (not-false (c .before .is-line .result) (c .if2 .left)))
+returns-3 c = line-found (sym (c .before .before .before .fits-line .ensures) ∙ not-false (c .before .before .before .fits-line .result) (c .before .before .if1 .left)) (c .before .is-line .ensures .yes (not-false (c .before .is-line .result) (c .if2 .left)))
 
 pub read-line-spec : {M : Type 1} → statement M
 read-line-spec =
-    tie.close (tie.spec guess-requires fits-requires returns is-line-requires returns-2 returns-3)
+    tie.close (tie.spec guess-requires fits-line-requires returns is-line-requires returns-2 returns-3)

@@ -6,11 +6,11 @@ use borrow.Author.Needs.{needs}
 use Rattle.syslog_write.proofs.write_frame.Statement.{statement}
 use Rattle.syslog_write.proofs.write_frame.Tie as tie
 
-fits-requires : tie.Need-fits-requires
-fits-requires c κs = search needs
+fits-line-requires : tie.Need-fits-line-requires
+fits-line-requires c κs = search needs
 
 returns : tie.Need-returns
-returns c = writes-unfit (sym (c .before .fits2 .ensures) ∙ not-true (c .before .fits2 .result) (c .if1 .taken))
+returns c = writes-unfit (sym (c .before .fits-line .ensures) ∙ not-true (c .before .fits-line .result) (c .if1 .taken))
 
 print-frame-requires : tie.Need-print-frame-requires
 print-frame-requires c κs = search needs
@@ -22,9 +22,9 @@ same-length : tie.Need-same-length
 same-length c = search needs
 
 returns-2 : tie.Need-returns-2
-returns-2 c = rw (c .as-line .ensures) (writes-printed (sym (c .before .before .before .before .before .before .fits2 .ensures) ∙ not-false (c .before .before .before .before .before .before .fits2 .result) (c .before .before .before .before .before .if1 .left)) (c .before .before .before .print-frame .ensures))
+returns-2 c = rw (c .as-line .ensures) (writes-printed (sym (c .before .before .before .before .before .before .fits-line .ensures) ∙ not-false (c .before .before .before .before .before .before .fits-line .result) (c .before .before .before .before .before .if1 .left)) (c .before .before .before .print-frame .ensures))
 
 pub write-frame-spec : {M : Type 1} → statement M
 write-frame-spec =
     tie.close
-    (tie.spec fits-requires returns print-frame-requires as-line-requires same-length returns-2)
+    (tie.spec fits-line-requires returns print-frame-requires as-line-requires same-length returns-2)

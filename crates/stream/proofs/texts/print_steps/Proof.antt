@@ -12,7 +12,7 @@ use Rattle.steps_sheet.proofs.Theorems.{few-counted}
 use Rattle.run_text.proofs.Serving.{room-most, decoded-are}
 use Rattle.text.proofs.Printing.{text-is}
 use Rattle.syslog.specs.Line.{streamOf}
-use Rattle.stream_text.specs.Stream.{linesIn}
+use Rattle.stream_text.specs.Stream.{lineEventsIn}
 use Rattle.stream_text.proofs.Sheets.{decoded-rows}
 use borrow.Author.Needs.{needs}
 use Rattle.stream.proofs.texts.print_steps.Statement.{statement}
@@ -119,7 +119,7 @@ returns c =
     let few : d .result .count ≤ mostSteps = omega (arith, pre .1) in
     let room = room-most (length (a .s .now)) _ _ _ (pre .1) (kinds .ensures) (doors .ensures) (persons .ensures) in
     let lists = decoded-are steps _ room (d .ensures .0) (kinds .result) (doors .result) (persons .result) (omega (arith, few, kinds .ensures)) (omega (arith, few, doors .ensures)) (omega (arith, few, persons .ensures)) (d .ensures .1 .0) (d .ensures .1 .1 .0) (d .ensures .1 .1 .1) in
-    text-is _ _ (a .out .now) (ap (λ (rows : List StepRow). streamOf (linesIn (a .fresh) rows)) (decoded-rows lists)) (c .before .before .print-run .ensures)
+    text-is _ _ (a .out .now) (ap (λ (rows : List StepRow). streamOf (lineEventsIn (a .fresh) rows)) (decoded-rows lists)) (c .before .before .print-run .ensures)
 
 pub print-steps-spec : {M : Type 1} → statement M
 print-steps-spec =

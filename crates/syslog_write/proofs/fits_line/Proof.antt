@@ -1,9 +1,9 @@
--- `fits` meets its contract: three tests, one after the other. Assumes nothing.
+-- `fits_line` meets its contract: three tests, one after the other. Assumes nothing.
 use Rattle.tables.proofs.Cases.{chain-above, chain-within}
 use Rattle.syslog.specs.Line.{fitsLine}
 use borrow.Author.Needs.{needs}
-use Rattle.syslog_write.proofs.fits.Statement.{statement}
-use Rattle.syslog_write.proofs.fits.Tie as tie
+use Rattle.syslog_write.proofs.fits_line.Statement.{statement}
+use Rattle.syslog_write.proofs.fits_line.Tie as tie
 
 returns : tie.Need-returns
 unfolding fitsLine
@@ -20,5 +20,5 @@ returns-3 : tie.Need-returns-3
 unfolding fitsLine
 returns-3 c = chain-within _ _ _ _ (c .before .before .before .if1 .left) (chain-within _ _ _ _ (c .before .if2 .left) (c .reason-fits .ensures))
 
-pub fits-spec : {M : Type 1} → statement M
-fits-spec = tie.close (tie.spec returns returns-2 reason-fits-requires returns-3)
+pub fits-line-spec : {M : Type 1} → statement M
+fits-line-spec = tie.close (tie.spec returns returns-2 reason-fits-requires returns-3)
