@@ -19,38 +19,17 @@ abbrev μ-loop : tie.MeasureT-loop
 loop-holds : tie.Need-loop-holds Inv-loop μ-loop
 loop-holds c = rowing-start (omega arith) (omega arith)
 
-read-frame-requires : tie.Need-read-frame-requires Inv-loop μ-loop
-read-frame-requires c κs = search needs
-
-enum-known-event : tie.Need-enum-known-event Inv-loop μ-loop
-enum-known-event c = search needs
-
-put-event-requires : tie.Need-put-event-requires Inv-loop μ-loop
-put-event-requires c κs = search needs
-
 loop-less : tie.Need-loop-less Inv-loop μ-loop
 loop-less c = let o = frame-onward (subst (ReadsFrame (c .before .before .before .before .before .before .before .before .before .before .before .args .stream .now) (c .before .before .before .before .before .before .before .before .loop .place)) (c .before .before .before .before .before .event .given .1) (c .before .before .before .before .before .before .before .read-frame .ensures)) in omega (arith, o .0, o .1)
 
 loop-again : tie.Need-loop-again Inv-loop μ-loop
 loop-again c = rowing-more (c .before .before .before .before .before .before .before .before .loop .inv) (subst (ReadsFrame (c .before .before .before .before .before .before .before .before .before .before .before .args .stream .now) (c .before .before .before .before .before .before .before .before .loop .place)) (c .before .before .before .before .before .event .given .1) (c .before .before .before .before .before .before .before .read-frame .ensures)) (c .before .before .put-event .ensures)
 
-enum-told : tie.Need-enum-told Inv-loop μ-loop
-enum-told c = search needs
-
 same-length : tie.Need-same-length Inv-loop μ-loop
 same-length c = c .before .before .before .loop .inv .long
 
 returns : tie.Need-returns Inv-loop μ-loop
 returns c = rowing-end (c .before .before .before .loop .inv) (subst (ReadsFrame (c .before .before .before .before .before .before .args .stream .now) (c .before .before .before .loop .place)) (c .enum-told .given .1) (c .before .before .read-frame .ensures))
-
-enum-told-2 : tie.Need-enum-told-2 Inv-loop μ-loop
-enum-told-2 c = search needs
-
-put-refused-requires : tie.Need-put-refused-requires Inv-loop μ-loop
-put-refused-requires c κs = search needs
-
-same-length-2 : tie.Need-same-length-2 Inv-loop μ-loop
-same-length-2 c = search needs
 
 returns-2 : tie.Need-returns-2 Inv-loop μ-loop
 returns-2 c = rowing-break (c .before .before .before .before .before .before .before .loop .inv) (subst (ReadsFrame (c .before .before .before .before .before .before .before .before .before .before .args .stream .now) (c .before .before .before .before .before .before .before .loop .place)) (c .before .before .before .before .enum-told2 .given .1) (c .before .before .before .before .before .before .read-frame .ensures)) (c .before .before .put-refused .ensures)
@@ -59,18 +38,5 @@ pub put-events-spec : {M : Type 1} → statement M
 put-events-spec =
     tie.close
     (tie.spec
-    Inv-loop
-    μ-loop
-    loop-holds
-    read-frame-requires
-    enum-known-event
-    put-event-requires
-    loop-less
-    loop-again
-    enum-told
-    same-length
-    returns
-    enum-told-2
-    put-refused-requires
-    same-length-2
-    returns-2)
+    Inv-loop μ-loop loop-holds (λ c κs. search needs) (λ c. search needs) (λ c κs. search needs) loop-less loop-again
+    (λ c. search needs) same-length returns (λ c. search needs) (λ c κs. search needs) (λ c. search needs) returns-2)

@@ -7,18 +7,6 @@ use borrow.Author.Needs.{needs}
 use Rattle.stream_rows.proofs.put_long.Statement.{statement}
 use Rattle.stream_rows.proofs.put_long.Tie as tie
 
-slice-aggregate-put-bytes : tie.Need-slice-aggregate-put-bytes
-slice-aggregate-put-bytes c = search needs
-
-put-bytes-requires : tie.Need-put-bytes-requires
-put-bytes-requires c κs = search needs
-
-put-refused-requires : tie.Need-put-refused-requires
-put-refused-requires c κs = search needs
-
-same-length : tie.Need-same-length
-same-length c = search needs
-
 returns : tie.Need-returns
 unfolding longRows
 returns c = last (more (begun (omega arith) (omega arith)) refl (c .before .before .before .before .before .before .put-bytes .ensures)) (c .before .before .put-refused .ensures)
@@ -27,8 +15,4 @@ pub put-long-spec : {M : Type 1} → statement M
 put-long-spec =
     tie.close
     (tie.spec
-    slice-aggregate-put-bytes
-    put-bytes-requires
-    put-refused-requires
-    same-length
-    returns)
+    (λ c. search needs) (λ c κs. search needs) (λ c κs. search needs) (λ c. search needs) returns)

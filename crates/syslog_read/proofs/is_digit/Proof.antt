@@ -2,7 +2,6 @@
 use borrow.Author.Tests.{lt-leb, le-leb}
 use Rattle.tables.specs.Tables.{andAlso}
 use Rattle.syslog.specs.Guess.{isDigit}
-use borrow.Author.Needs.{needs}
 use Rattle.syslog_read.proofs.is_digit.Statement.{statement}
 use Rattle.syslog_read.proofs.is_digit.Tie as tie
 
@@ -17,4 +16,5 @@ returns-2 c = rw (le-leb _ _ (c .if1 .left))
 pub is-digit-spec : {M : Type 1} → statement M
 is-digit-spec =
     tie.close
-    (tie.spec returns returns-2)
+    (tie.spec
+    returns returns-2)

@@ -11,12 +11,6 @@ use borrow.Author.Needs.{needs}
 use Rattle.syslog_read.proofs.is_frame.Statement.{statement}
 use Rattle.syslog_read.proofs.is_frame.Tie as tie
 
-slice-aggregate-put-frame : tie.Need-slice-aggregate-put-frame
-slice-aggregate-put-frame c = search needs
-
-put-frame-requires : tie.Need-put-frame-requires
-put-frame-requires c κs = search needs
-
 array-share-prefix-own : tie.Need-array-share-prefix-own
 array-share-prefix-own c =
     let few = frame-short _ (fits-tells (c .before .before .before .before .args .event) .yes (c .before .before .before .before .pre)) in
@@ -29,9 +23,6 @@ slice-aggregate-same c =
     let own = own-text (c .before .before .put-frame .ensures) (omega arith) (omega arith) in
     sym (length-take-le _ _ (omega (arith, own .0)))
 
-same-requires : tie.Need-same-requires
-same-requires c κs = search needs
-
 returns : tie.Need-returns
 returns c =
     let few = frame-short _ (fits-tells (c .before .before .before .before .before .before .args .event) .yes (c .before .before .before .before .before .before .pre)) in
@@ -41,4 +32,5 @@ returns c =
 pub is-frame-spec : {M : Type 1} → statement M
 is-frame-spec =
     tie.close
-    (tie.spec slice-aggregate-put-frame put-frame-requires array-share-prefix-own slice-aggregate-same same-requires returns)
+    (tie.spec
+    (λ c. search needs) (λ c κs. search needs) array-share-prefix-own slice-aggregate-same (λ c κs. search needs) returns)

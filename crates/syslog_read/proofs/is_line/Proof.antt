@@ -11,12 +11,6 @@ use borrow.Author.Needs.{needs}
 use Rattle.syslog_read.proofs.is_line.Statement.{statement}
 use Rattle.syslog_read.proofs.is_line.Tie as tie
 
-slice-aggregate-put-line : tie.Need-slice-aggregate-put-line
-slice-aggregate-put-line c = search needs
-
-put-line-requires : tie.Need-put-line-requires
-put-line-requires c κs = search needs
-
 array-share-prefix-own : tie.Need-array-share-prefix-own
 array-share-prefix-own c =
     let few = line-short _ (fits-tells (c .before .before .before .before .args .event) .yes (c .before .before .before .before .pre)) in
@@ -29,9 +23,6 @@ slice-aggregate-same c =
     let own = own-text (c .before .before .put-line .ensures) (omega arith) (omega arith) in
     sym (length-take-le _ _ (omega (arith, own .0)))
 
-same-requires : tie.Need-same-requires
-same-requires c κs = search needs
-
 returns : tie.Need-returns
 returns c =
     let few = line-short _ (fits-tells (c .before .before .before .before .before .before .args .event) .yes (c .before .before .before .before .before .before .pre)) in
@@ -41,4 +32,5 @@ returns c =
 pub is-line-spec : {M : Type 1} → statement M
 is-line-spec =
     tie.close
-    (tie.spec slice-aggregate-put-line put-line-requires array-share-prefix-own slice-aggregate-same same-requires returns)
+    (tie.spec
+    (λ c. search needs) (λ c κs. search needs) array-share-prefix-own slice-aggregate-same (λ c κs. search needs) returns)

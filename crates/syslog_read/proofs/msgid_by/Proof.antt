@@ -1,7 +1,6 @@
 -- `msgid_by` meets its contract: three tests, one after the other. Assumes nothing.
 use borrow.Author.Tests.{eq-eqb, ne-eqb}
 use Rattle.syslog.specs.Guess.{msgidBy}
-use borrow.Author.Needs.{needs}
 use Rattle.syslog_read.proofs.msgid_by.Statement.{statement}
 use Rattle.syslog_read.proofs.msgid_by.Tie as tie
 
@@ -24,4 +23,5 @@ returns-4 c = rw (ne-eqb _ _ (c .before .before .if1 .left), ne-eqb _ _ (c .befo
 pub msgid-by-spec : {M : Type 1} → statement M
 msgid-by-spec =
     tie.close
-    (tie.spec returns returns-2 returns-3 returns-4)
+    (tie.spec
+    returns returns-2 returns-3 returns-4)

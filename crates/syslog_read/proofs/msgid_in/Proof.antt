@@ -16,23 +16,8 @@ abbrev μ-loop : tie.MeasureT-loop
 loop-holds : tie.Need-loop-holds Inv-loop μ-loop
 loop-holds c = so-start
 
-shared-slice-read-if1 : tie.Need-shared-slice-read-if1 Inv-loop μ-loop
-shared-slice-read-if1 c = search needs
-
-shared-slice-read-msgid-by : tie.Need-shared-slice-read-msgid-by Inv-loop μ-loop
-shared-slice-read-msgid-by c = search needs
-
-msgid-by-requires : tie.Need-msgid-by-requires Inv-loop μ-loop
-msgid-by-requires c κs = search needs
-
 returns : tie.Need-returns Inv-loop μ-loop
 returns c = letter-found (c .before .before .before .before .before .loop .inv) (c .before .before .before .before .loop-test .taken) (c .before .before .if1 .taken) (c .msgid-by .ensures)
-
-add-i : tie.Need-add-i Inv-loop μ-loop
-add-i c = search needs
-
-loop-less : tie.Need-loop-less Inv-loop μ-loop
-loop-less c = search needs
 
 loop-again : tie.Need-loop-again Inv-loop μ-loop
 loop-again c = letter-more (c .before .before .before .loop .inv) (c .before .before .loop-test .taken) (c .if1 .left)
@@ -43,4 +28,6 @@ returns-2 c = letter-none (c .before .loop .inv) (c .loop-test .left)
 pub msgid-in-spec : {M : Type 1} → statement M
 msgid-in-spec =
     tie.close
-    (tie.spec Inv-loop μ-loop loop-holds shared-slice-read-if1 shared-slice-read-msgid-by msgid-by-requires returns add-i loop-less loop-again returns-2)
+    (tie.spec
+    Inv-loop μ-loop loop-holds (λ c. search needs) (λ c. search needs) (λ c κs. search needs) returns (λ c. search needs)
+    (λ c. search needs) loop-again returns-2)

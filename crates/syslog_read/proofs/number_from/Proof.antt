@@ -21,12 +21,6 @@ loop-holds c = number-start
 returns : tie.Need-returns Inv-loop μ-loop
 returns c = let at = c .before .before .loop .inv in (number-ends at (c .if1 .taken), number-bounded at)
 
-shared-slice-read-byte : tie.Need-shared-slice-read-byte Inv-loop μ-loop
-shared-slice-read-byte c = search needs
-
-is-digit-requires : tie.Need-is-digit-requires Inv-loop μ-loop
-is-digit-requires c κs = search needs
-
 returns-2 : tie.Need-returns-2 Inv-loop μ-loop
 returns-2 c =
     let at = c .before .before .before .before .before .loop .inv in
@@ -44,12 +38,6 @@ cast-n c = let d = digit-within _ (sym (c .before .is-digit .ensures) ∙ not-fa
 add-n : tie.Need-add-n Inv-loop μ-loop
 add-n c = let s = number-bounded (c .before .before .before .before .before .loop .inv) in let d = digit-within _ (sym (c .before .is-digit .ensures) ∙ not-false (c .before .is-digit .result) (c .if2 .left)) in omega (arith, d .0, d .1)
 
-add-i : tie.Need-add-i Inv-loop μ-loop
-add-i c = search needs
-
-loop-less : tie.Need-loop-less Inv-loop μ-loop
-loop-less c = search needs
-
 loop-again : tie.Need-loop-again Inv-loop μ-loop
 loop-again c =
     number-more (c .before .before .before .before .before .loop .inv) (c .before .before .before .before .loop-test .taken) (c .before .before .before .if1 .left)
@@ -61,4 +49,6 @@ returns-3 c = let at = c .before .loop .inv in (number-full at (c .loop-test .le
 pub number-from-spec : {M : Type 1} → statement M
 number-from-spec =
     tie.close
-    (tie.spec Inv-loop μ-loop loop-holds returns shared-slice-read-byte is-digit-requires returns-2 mul-n sub-n cast-n add-n add-i loop-less loop-again returns-3)
+    (tie.spec
+    Inv-loop μ-loop loop-holds returns (λ c. search needs) (λ c κs. search needs) returns-2 mul-n sub-n cast-n add-n (λ c. search needs)
+    (λ c. search needs) loop-again returns-3)

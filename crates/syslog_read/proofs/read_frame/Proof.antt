@@ -16,24 +16,6 @@ use Rattle.syslog_read.proofs.read_frame.Tie as tie
 returns : tie.Need-returns
 returns c = frame-past (c .if1 .taken)
 
-returns-2 : tie.Need-returns-2
-returns-2 c = search needs
-
-sub-rest : tie.Need-sub-rest
-sub-rest c = search needs
-
-part-rest-start : tie.Need-part-rest-start
-part-rest-start c = search needs
-
-part-rest-end : tie.Need-part-rest-end
-part-rest-end c = search needs
-
-number-from-requires : tie.Need-number-from-requires
-number-from-requires c κs = search needs
-
-add-size : tie.Need-add-size
-add-size c = search needs
-
 returns-3 : tie.Need-returns-3
 returns-3 c =
     let s = c .before .before .before .before .before .before .args .stream .now in
@@ -47,12 +29,6 @@ returns-3 c =
 
 slice-aggregate-text : tie.Need-slice-aggregate-text
 slice-aggregate-text c = sym (length-take-le _ _ (c .before .if3 .left))
-
-guess-requires : tie.Need-guess-requires
-guess-requires c κs = search needs
-
-fits-line-requires : tie.Need-fits-line-requires
-fits-line-requires c κs = search needs
 
 returns-4 : tie.Need-returns-4
 returns-4 c =
@@ -79,9 +55,6 @@ returns-5 c =
     let size = c .before .before .before .before .before .before .before .number-from .ensures .0 in
     frame-other s at inside (rw (size, rest) at (c .before .before .before .before .before .before .if3 .left)) (λ is. true≢false (sym (c .before .is-frame .ensures .back (rw (size, rest) (is ∙ ap framedOf (rw (size, rest) at (sym (c .before .before .before .before .guess .ensures)))))) ∙ not-true (c .before .is-frame .result) (c .if5 .taken)))
 
-add-t7 : tie.Need-add-t7
-add-t7 c = search needs
-
 returns-6 : tie.Need-returns-6
 returns-6 c =
     let s = c .before .before .before .before .before .before .before .before .before .before .before .before .args .stream .now in
@@ -97,19 +70,6 @@ pub read-frame-spec : {M : Type 1} → statement M
 read-frame-spec =
     tie.close
     (tie.spec
-    returns
-    returns-2
-    sub-rest
-    part-rest-start
-    part-rest-end
-    number-from-requires
-    add-size
-    returns-3
-    slice-aggregate-text
-    guess-requires
-    fits-line-requires
-    returns-4
-    is-frame-requires
-    returns-5
-    add-t7
-    returns-6)
+    returns (λ c. search needs) (λ c. search needs) (λ c. search needs) (λ c. search needs) (λ c κs. search needs) (λ c. search needs)
+    returns-3 slice-aggregate-text (λ c κs. search needs) (λ c κs. search needs) returns-4 is-frame-requires returns-5
+    (λ c. search needs) returns-6)

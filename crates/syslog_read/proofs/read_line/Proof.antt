@@ -8,12 +8,6 @@ use borrow.Author.Needs.{needs}
 use Rattle.syslog_read.proofs.read_line.Statement.{statement}
 use Rattle.syslog_read.proofs.read_line.Tie as tie
 
-guess-requires : tie.Need-guess-requires
-guess-requires c κs = search needs
-
-fits-line-requires : tie.Need-fits-line-requires
-fits-line-requires c κs = search needs
-
 returns : tie.Need-returns
 returns c = line-unfit (ap fitsLine (sym (c .before .before .guess .ensures)) ∙ sym (c .before .fits-line .ensures) ∙ not-true (c .before .fits-line .result) (c .if1 .taken))
 
@@ -28,4 +22,5 @@ returns-3 c = line-found (sym (c .before .before .before .fits-line .ensures) �
 
 pub read-line-spec : {M : Type 1} → statement M
 read-line-spec =
-    tie.close (tie.spec guess-requires fits-line-requires returns is-line-requires returns-2 returns-3)
+    tie.close (tie.spec
+    (λ c κs. search needs) (λ c κs. search needs) returns is-line-requires returns-2 returns-3)

@@ -13,12 +13,10 @@ returns-2 : tie.Need-returns-2
 unfolding fitsLine
 returns-2 c = chain-within _ _ _ _ (c .before .before .if1 .left) (chain-above _ _ _ (c .if2 .taken))
 
-reason-fits-requires : tie.Need-reason-fits-requires
-reason-fits-requires c κs = search needs
-
 returns-3 : tie.Need-returns-3
 unfolding fitsLine
 returns-3 c = chain-within _ _ _ _ (c .before .before .before .if1 .left) (chain-within _ _ _ _ (c .before .if2 .left) (c .reason-fits .ensures))
 
 pub fits-line-spec : {M : Type 1} → statement M
-fits-line-spec = tie.close (tie.spec returns returns-2 reason-fits-requires returns-3)
+fits-line-spec = tie.close (tie.spec
+    returns returns-2 (λ c κs. search needs) returns-3)

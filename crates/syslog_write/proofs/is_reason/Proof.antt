@@ -14,4 +14,5 @@ unfolding andAlso
 returns-2 c = rw (le-leb _ _ (c .if1 .left))
 
 pub is-reason-spec : {M : Type 1} → statement M
-is-reason-spec = tie.close (tie.spec returns returns-2)
+is-reason-spec = tie.close (tie.spec
+    returns returns-2)

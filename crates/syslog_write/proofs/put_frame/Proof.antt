@@ -10,27 +10,6 @@ use borrow.Author.Needs.{needs}
 use Rattle.syslog_write.proofs.put_frame.Statement.{statement}
 use Rattle.syslog_write.proofs.put_frame.Tie as tie
 
-slice-relend-prefix-put-line : tie.Need-slice-relend-prefix-put-line
-slice-relend-prefix-put-line c = search needs
-
-slice-aggregate-put-line : tie.Need-slice-aggregate-put-line
-slice-aggregate-put-line c = search needs
-
-put-line-requires : tie.Need-put-line-requires
-put-line-requires c κs = search needs
-
-put-number-requires : tie.Need-put-number-requires
-put-number-requires c κs = search needs
-
-put-requires : tie.Need-put-requires
-put-requires c κs = search needs
-
-put-line-requires-2 : tie.Need-put-line-requires-2
-put-line-requires-2 c κs = search needs
-
-same-length : tie.Need-same-length
-same-length c = search needs
-
 returns : tie.Need-returns
 unfolding framedOf
 returns c =
@@ -45,11 +24,5 @@ pub put-frame-spec : {M : Type 1} → statement M
 put-frame-spec =
     tie.close
     (tie.spec
-    slice-relend-prefix-put-line
-    slice-aggregate-put-line
-    put-line-requires
-    put-number-requires
-    put-requires
-    put-line-requires-2
-    same-length
-    returns)
+    (λ c. search needs) (λ c. search needs) (λ c κs. search needs) (λ c κs. search needs) (λ c κs. search needs) (λ c κs. search needs)
+    (λ c. search needs) returns)

@@ -8,32 +8,8 @@ use borrow.Author.Needs.{needs}
 use Rattle.syslog_write.proofs.put_reason.Statement.{statement}
 use Rattle.syslog_write.proofs.put_reason.Tie as tie
 
-enum-told : tie.Need-enum-told
-enum-told c = search needs
-
-enum-told-2 : tie.Need-enum-told-2
-enum-told-2 c = search needs
-
-slice-aggregate-put-bytes : tie.Need-slice-aggregate-put-bytes
-slice-aggregate-put-bytes c = search needs
-
-put-bytes-requires : tie.Need-put-bytes-requires
-put-bytes-requires c κs = search needs
-
-put-number-requires : tie.Need-put-number-requires
-put-number-requires c κs = search needs
-
-enum-told-3 : tie.Need-enum-told-3
-enum-told-3 c = search needs
-
-enum-told-4 : tie.Need-enum-told-4
-enum-told-4 c = search needs
-
 returns : tie.Need-returns
 returns c = ended (begun (omega arith) (omega arith)) (ap (λ (m : Msgid). reasonPart m (c .before .before .before .args .reason)) (c .enum-told .given .1))
-
-same-length : tie.Need-same-length
-same-length c = search needs
 
 returns-2 : tie.Need-returns-2
 returns-2 c = said (ap (λ (m : Msgid). reasonPart m (c .before .before .before .before .before .before .before .before .before .before .before .before .args .reason)) (sym (c .before .before .before .before .before .before .before .before .before .enum-told2 .given .1))) (last (more (begun (omega arith) (omega arith)) refl (c .before .before .before .before .before .before .put-bytes .ensures)) (c .before .before .put-number .ensures))
@@ -48,15 +24,5 @@ pub put-reason-spec : {M : Type 1} → statement M
 put-reason-spec =
     tie.close
     (tie.spec
-    enum-told
-    enum-told-2
-    slice-aggregate-put-bytes
-    put-bytes-requires
-    put-number-requires
-    enum-told-3
-    enum-told-4
-    returns
-    same-length
-    returns-2
-    returns-3
-    returns-4)
+    (λ c. search needs) (λ c. search needs) (λ c. search needs) (λ c κs. search needs) (λ c κs. search needs) (λ c. search needs)
+    (λ c. search needs) returns (λ c. search needs) returns-2 returns-3 returns-4)

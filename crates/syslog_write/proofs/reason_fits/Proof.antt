@@ -5,21 +5,6 @@ use borrow.Author.Needs.{needs}
 use Rattle.syslog_write.proofs.reason_fits.Statement.{statement}
 use Rattle.syslog_write.proofs.reason_fits.Tie as tie
 
-enum-told : tie.Need-enum-told
-enum-told c = search needs
-
-enum-told-2 : tie.Need-enum-told-2
-enum-told-2 c = search needs
-
-is-reason-requires : tie.Need-is-reason-requires
-is-reason-requires c κs = search needs
-
-enum-told-3 : tie.Need-enum-told-3
-enum-told-3 c = search needs
-
-enum-told-4 : tie.Need-enum-told-4
-enum-told-4 c = search needs
-
 returns : tie.Need-returns
 unfolding reasonFits
 returns c = rw (c .enum-told .given .1)
@@ -40,12 +25,5 @@ pub reason-fits-spec : {M : Type 1} → statement M
 reason-fits-spec =
     tie.close
     (tie.spec
-    enum-told
-    enum-told-2
-    is-reason-requires
-    enum-told-3
-    enum-told-4
-    returns
-    returns-2
-    returns-3
+    (λ c. search needs) (λ c. search needs) (λ c κs. search needs) (λ c. search needs) (λ c. search needs) returns returns-2 returns-3
     returns-4)

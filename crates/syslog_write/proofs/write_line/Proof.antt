@@ -6,20 +6,8 @@ use borrow.Author.Needs.{needs}
 use Rattle.syslog_write.proofs.write_line.Statement.{statement}
 use Rattle.syslog_write.proofs.write_line.Tie as tie
 
-fits-line-requires : tie.Need-fits-line-requires
-fits-line-requires c κs = search needs
-
 returns : tie.Need-returns
 returns c = writes-unfit (sym (c .before .fits-line .ensures) ∙ not-true (c .before .fits-line .result) (c .if1 .taken))
-
-print-line-requires : tie.Need-print-line-requires
-print-line-requires c κs = search needs
-
-as-line-requires : tie.Need-as-line-requires
-as-line-requires c κs = search needs
-
-same-length : tie.Need-same-length
-same-length c = search needs
 
 returns-2 : tie.Need-returns-2
 returns-2 c = rw (c .as-line .ensures) (writes-printed (sym (c .before .before .before .before .before .before .fits-line .ensures) ∙ not-false (c .before .before .before .before .before .before .fits-line .result) (c .before .before .before .before .before .if1 .left)) (c .before .before .before .print-line .ensures))
@@ -27,4 +15,5 @@ returns-2 c = rw (c .as-line .ensures) (writes-printed (sym (c .before .before .
 pub write-line-spec : {M : Type 1} → statement M
 write-line-spec =
     tie.close
-    (tie.spec fits-line-requires returns print-line-requires as-line-requires same-length returns-2)
+    (tie.spec
+    (λ c κs. search needs) returns (λ c κs. search needs) (λ c κs. search needs) (λ c. search needs) returns-2)

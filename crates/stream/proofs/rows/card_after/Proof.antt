@@ -12,12 +12,6 @@ returns : tie.Need-returns
 unfolding cardAfter
 returns c = simp (ne-eqb _ _ (c .if1 .taken))
 
-enum-told : tie.Need-enum-told
-enum-told c = search needs
-
-enum-told-2 : tie.Need-enum-told-2
-enum-told-2 c = search needs
-
 returns-2 : tie.Need-returns-2
 unfolding cardAfter
 returns-2 c = simp (c .before .before .if1 .left, c .enum-told .given .1)
@@ -32,4 +26,5 @@ returns-4 c =
     (λ is. miss (1 ∷ 2 ∷ 3 ∷ 4 ∷ 5 ∷ 6 ∷ 7 ∷ 8 ∷ 10 ∷ []) 9 tt (rw is at (c .match .keys3)))
 
 pub card-after-spec : {M : Type 1} → statement M
-card-after-spec = tie.close (tie.spec returns enum-told enum-told-2 returns-2 returns-3 returns-4)
+card-after-spec = tie.close (tie.spec
+    returns (λ c. search needs) (λ c. search needs) returns-2 returns-3 returns-4)

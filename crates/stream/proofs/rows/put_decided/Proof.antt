@@ -7,22 +7,10 @@ use Rattle.stream_text.proofs.Rows.{decided-granted, decided-denied}
 use Rattle.stream.proofs.rows.put_decided.Statement.{statement}
 use Rattle.stream.proofs.rows.put_decided.Tie as tie
 
-put-frame-requires : tie.Need-put-frame-requires
-put-frame-requires c κs = search needs
-
-same-length : tie.Need-same-length
-same-length c = search needs
-
 returns : tie.Need-returns
 returns c =
     let a = c .before .before .before .before .before .before .args in
     said (ap framedOf (decided-granted (a .phase) (a .reason) (a .door) (a .person) (c .before .before .before .before .if1 .taken))) (c .before .before .put-frame .ensures)
-
-put-frame-requires-2 : tie.Need-put-frame-requires-2
-put-frame-requires-2 c κs = search needs
-
-same-length-2 : tie.Need-same-length-2
-same-length-2 c = search needs
 
 returns-2 : tie.Need-returns-2
 returns-2 c =
@@ -30,4 +18,5 @@ returns-2 c =
     said (ap framedOf (decided-denied (a .phase) (a .reason) (a .door) (a .person) (c .before .before .before .before .if1 .left))) (c .before .before .put-frame2 .ensures)
 
 pub put-decided-spec : {M : Type 1} → statement M
-put-decided-spec = tie.close (tie.spec put-frame-requires same-length returns put-frame-requires-2 same-length-2 returns-2)
+put-decided-spec = tie.close (tie.spec
+    (λ c κs. search needs) (λ c. search needs) returns (λ c κs. search needs) (λ c. search needs) returns-2)

@@ -14,42 +14,15 @@ returns c =
     let a = c .before .before .args in
     nothing-written _ (told-refused (a .kind) (a .answer) (a .phase) (a .reason) (a .door) (a .person) (c .if1 .taken)) (omega arith) (omega arith)
 
-enum-told : tie.Need-enum-told
-enum-told c = search needs
-
-put-decided-requires : tie.Need-put-decided-requires
-put-decided-requires c κs = search needs
-
-enum-told-2 : tie.Need-enum-told-2
-enum-told-2 c = search needs
-
-put-frame-requires : tie.Need-put-frame-requires
-put-frame-requires c κs = search needs
-
-enum-told-3 : tie.Need-enum-told-3
-enum-told-3 c = search needs
-
-put-frame-requires-2 : tie.Need-put-frame-requires-2
-put-frame-requires-2 c κs = search needs
-
-same-length : tie.Need-same-length
-same-length c = search needs
-
 returns-2 : tie.Need-returns-2
 returns-2 c =
     let a = c .before .before .before .before .before .before .before .before .args in
     said (told-decided (a .kind) (a .answer) (a .phase) (a .reason) (a .door) (a .person) (c .before .before .before .before .enum-told .given .1) (c .before .before .before .before .before .before .if1 .left)) (c .before .before .put-decided .ensures)
 
-same-length-2 : tie.Need-same-length-2
-same-length-2 c = search needs
-
 returns-3 : tie.Need-returns-3
 returns-3 c =
     let a = c .before .before .before .before .before .before .before .before .args in
     said (told-passed (a .kind) (a .answer) (a .phase) (a .reason) (a .door) (a .person) (c .before .before .before .before .enum-told2 .given .1) (c .before .before .before .before .before .before .if1 .left)) (c .before .before .put-frame .ensures)
-
-same-length-3 : tie.Need-same-length-3
-same-length-3 c = search needs
 
 returns-4 : tie.Need-returns-4
 returns-4 c =
@@ -69,17 +42,5 @@ pub put-told-spec : {M : Type 1} → statement M
 put-told-spec =
     tie.close
     (tie.spec
-    returns
-    enum-told
-    put-decided-requires
-    enum-told-2
-    put-frame-requires
-    enum-told-3
-    put-frame-requires-2
-    same-length
-    returns-2
-    same-length-2
-    returns-3
-    same-length-3
-    returns-4
-    returns-5)
+    returns (λ c. search needs) (λ c κs. search needs) (λ c. search needs) (λ c κs. search needs) (λ c. search needs)
+    (λ c κs. search needs) (λ c. search needs) returns-2 (λ c. search needs) returns-3 (λ c. search needs) returns-4 returns-5)

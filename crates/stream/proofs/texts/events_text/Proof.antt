@@ -7,12 +7,6 @@ use borrow.Author.Needs.{needs}
 use Rattle.stream.proofs.texts.events_text.Statement.{statement}
 use Rattle.stream.proofs.texts.events_text.Tie as tie
 
-read-site-requires : tie.Need-read-site-requires
-read-site-requires c κs = search needs
-
-number-requires : tie.Need-number-requires
-number-requires c κs = search needs
-
 returns : tie.Need-returns
 returns c =
     let a = c .before .before .before .before .before .before .args in
@@ -22,9 +16,6 @@ print-headed-requires : tie.Need-print-headed-requires
 print-headed-requires c κs =
     let a = c .before .before .before .before .before .before .before .before .args in
     accepted-fresh-sound (a .site .now) (a .steps .now) (c .before .before .before .before .read-site .ensures) (c .before .before .before .number .ensures) (c .before .before .if1 .left)
-
-same-length : tie.Need-same-length
-same-length c = search needs
 
 returns-2 : tie.Need-returns-2
 returns-2 c =
@@ -36,9 +27,4 @@ pub events-text-spec : {M : Type 1} → statement M
 events-text-spec =
     tie.close
     (tie.spec
-    read-site-requires
-    number-requires
-    returns
-    print-headed-requires
-    same-length
-    returns-2)
+    (λ c κs. search needs) (λ c κs. search needs) returns print-headed-requires (λ c. search needs) returns-2)

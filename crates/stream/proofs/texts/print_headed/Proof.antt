@@ -11,18 +11,6 @@ use borrow.Author.Needs.{needs}
 use Rattle.stream.proofs.texts.print_headed.Statement.{statement}
 use Rattle.stream.proofs.texts.print_headed.Tie as tie
 
-heading-of-requires : tie.Need-heading-of-requires
-heading-of-requires c κs = search needs
-
-enum-told : tie.Need-enum-told
-enum-told c = search needs
-
-enum-told-2 : tie.Need-enum-told-2
-enum-told-2 c = search needs
-
-enum-known-from : tie.Need-enum-known-from
-enum-known-from c = search needs
-
 print-steps-requires : tie.Need-print-steps-requires
 print-steps-requires c κs =
     (c .before .before .before .before .before .before .before .pre, headed-short limit (c .before .before .before .before .before .before .before .args .steps .now) (sym (c .before .before .before .before .heading-of .ensures) ∙ c .before .before .from .given .1))
@@ -37,9 +25,6 @@ returns-2 c =
     let a = c .before .before .before .before .before .args in
     nothing-printed _ _ (wrong-stream (a .fresh) (a .steps .now) (sym (c .before .before .heading-of .ensures) ∙ c .enum-told2 .given .1))
 
-same-length : tie.Need-same-length
-same-length c = search needs
-
 returns-3 : tie.Need-returns-3
 returns-3 c =
     let a = c .before .before .before .before .before .before .before .before .before .before .args in
@@ -51,12 +36,5 @@ pub print-headed-spec : {M : Type 1} → statement M
 print-headed-spec =
     tie.close
     (tie.spec
-    heading-of-requires
-    enum-told
-    enum-told-2
-    enum-known-from
-    print-steps-requires
-    returns
-    returns-2
-    same-length
-    returns-3)
+    (λ c κs. search needs) (λ c. search needs) (λ c. search needs) (λ c. search needs) print-steps-requires returns returns-2
+    (λ c. search needs) returns-3)

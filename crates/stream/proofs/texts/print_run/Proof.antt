@@ -15,47 +15,17 @@ use Rattle.stream.proofs.texts.print_run.Tie as tie
 shaped : (c : tie.Start) → Shaped (c .args .fresh)
 shaped c = search needs
 
-blank-bytes-requires : tie.Need-blank-bytes-requires
-blank-bytes-requires c κs = search needs
-
-blank-bytes-requires-2 : tie.Need-blank-bytes-requires-2
-blank-bytes-requires-2 c κs = search needs
-
-blank-bytes-requires-3 : tie.Need-blank-bytes-requires-3
-blank-bytes-requires-3 c κs = search needs
-
-slice-aggregate-run : tie.Need-slice-aggregate-run
-slice-aggregate-run c = search needs
-
-slice-aggregate-run-2 : tie.Need-slice-aggregate-run-2
-slice-aggregate-run-2 c = search needs
-
-slice-aggregate-run-3 : tie.Need-slice-aggregate-run-3
-slice-aggregate-run-3 c = search needs
-
-run-requires : tie.Need-run-requires
-run-requires c κs = search needs
-
-array-share-prefix-answers : tie.Need-array-share-prefix-answers
-array-share-prefix-answers c = search needs
-
 slice-aggregate-print-events : tie.Need-slice-aggregate-print-events
 slice-aggregate-print-events c =
     let few = c .before .before .before .before .before .before .before .before .before .before .before .before .before .before .before .pre .1 .0 in
     let long : mostSteps ≡ length (c .before .before .before .before .run .last .1 .1 .1 .1 .0) = search needs in
     sym (length-take-le _ _ (omega arith))
 
-array-share-prefix-phases : tie.Need-array-share-prefix-phases
-array-share-prefix-phases c = search needs
-
 slice-aggregate-print-events-2 : tie.Need-slice-aggregate-print-events-2
 slice-aggregate-print-events-2 c =
     let few = c .before .before .before .before .before .before .before .before .before .before .before .before .before .before .before .before .pre .1 .0 in
     let long : mostSteps ≡ length (c .before .before .before .before .before .run .last .1 .1 .1 .1 .1 .0) = search needs in
     sym (length-take-le _ _ (omega arith))
-
-array-share-prefix-reasons : tie.Need-array-share-prefix-reasons
-array-share-prefix-reasons c = search needs
 
 slice-aggregate-print-events-3 : tie.Need-slice-aggregate-print-events-3
 slice-aggregate-print-events-3 c =
@@ -75,9 +45,6 @@ print-events-requires c κs =
     let so = run-heard (a .fresh) (a .kinds .now) (a .doors .now) (a .persons .now) (pre .1 .1) (pre .1 .2) (shaped (c .before .before .before .before .before .before .before .before .before .before .before .before .before .before .before .before .before .before)) (pre .0) (in-answers .result) (in-phases .result) (in-reasons .result) (omega (arith, few, in-answers .ensures)) (omega (arith, few, in-phases .ensures)) (omega (arith, few, in-reasons .ensures)) (e .1 .0) (e .1 .1 .0) (e .1 .1 .1) in
     so .heard
 
-same-length : tie.Need-same-length
-same-length c = search needs
-
 returns : tie.Need-returns
 returns c =
     let a = c .before .before .before .before .before .before .before .before .before .before .before .before .before .before .before .before .before .before .before .before .before .args in
@@ -94,19 +61,6 @@ pub print-run-spec : {M : Type 1} → statement M
 print-run-spec =
     tie.close
     (tie.spec
-    blank-bytes-requires
-    blank-bytes-requires-2
-    blank-bytes-requires-3
-    slice-aggregate-run
-    slice-aggregate-run-2
-    slice-aggregate-run-3
-    run-requires
-    array-share-prefix-answers
-    slice-aggregate-print-events
-    array-share-prefix-phases
-    slice-aggregate-print-events-2
-    array-share-prefix-reasons
-    slice-aggregate-print-events-3
-    print-events-requires
-    same-length
-    returns)
+    (λ c κs. search needs) (λ c κs. search needs) (λ c κs. search needs) (λ c. search needs) (λ c. search needs) (λ c. search needs)
+    (λ c κs. search needs) (λ c. search needs) slice-aggregate-print-events (λ c. search needs) slice-aggregate-print-events-2
+    (λ c. search needs) slice-aggregate-print-events-3 print-events-requires (λ c. search needs) returns)

@@ -18,27 +18,6 @@ use borrow.Author.Needs.{needs}
 use Rattle.stream.proofs.texts.print_steps.Statement.{statement}
 use Rattle.stream.proofs.texts.print_steps.Tie as tie
 
-blank-bytes-requires : tie.Need-blank-bytes-requires
-blank-bytes-requires c κs = search needs
-
-blank-numbers-requires : tie.Need-blank-numbers-requires
-blank-numbers-requires c κs = search needs
-
-blank-numbers-requires-2 : tie.Need-blank-numbers-requires-2
-blank-numbers-requires-2 c κs = search needs
-
-slice-aggregate-decode : tie.Need-slice-aggregate-decode
-slice-aggregate-decode c = search needs
-
-slice-aggregate-decode-2 : tie.Need-slice-aggregate-decode-2
-slice-aggregate-decode-2 c = search needs
-
-slice-aggregate-decode-3 : tie.Need-slice-aggregate-decode-3
-slice-aggregate-decode-3 c = search needs
-
-decode-requires : tie.Need-decode-requires
-decode-requires c κs = search needs
-
 array-share-prefix-kinds : tie.Need-array-share-prefix-kinds
 array-share-prefix-kinds c =
     let a = c .before .before .before .before .before .before .before .before .before .before .before .before .args in
@@ -103,9 +82,6 @@ print-run-requires c κs =
     let y = length-take-le (d .result .count) (d .last .1 .1 .1 .1 .0) (omega arith) in
     (pre .0, (omega (arith, k, few), x ∙ sym k, y ∙ sym k))
 
-same-length : tie.Need-same-length
-same-length c = search needs
-
 returns : tie.Need-returns
 returns c =
     let a = c .before .before .before .before .before .before .before .before .before .before .before .before .before .before .before .before .before .before .before .args in
@@ -125,19 +101,6 @@ pub print-steps-spec : {M : Type 1} → statement M
 print-steps-spec =
     tie.close
     (tie.spec
-    blank-bytes-requires
-    blank-numbers-requires
-    blank-numbers-requires-2
-    slice-aggregate-decode
-    slice-aggregate-decode-2
-    slice-aggregate-decode-3
-    decode-requires
-    array-share-prefix-kinds
-    slice-aggregate-print-run
-    array-share-prefix-doors
-    slice-aggregate-print-run-2
-    array-share-prefix-persons
-    slice-aggregate-print-run-3
-    print-run-requires
-    same-length
-    returns)
+    (λ c κs. search needs) (λ c κs. search needs) (λ c κs. search needs) (λ c. search needs) (λ c. search needs) (λ c. search needs)
+    (λ c κs. search needs) array-share-prefix-kinds slice-aggregate-print-run array-share-prefix-doors slice-aggregate-print-run-2
+    array-share-prefix-persons slice-aggregate-print-run-3 print-run-requires (λ c. search needs) returns)

@@ -10,25 +10,8 @@ Inv-loop n₀ n = Unit {0}
 abbrev μ-loop : tie.MeasureT-loop
 μ-loop n₀ n = 500 - n
 
-loop-holds : tie.Need-loop-holds Inv-loop μ-loop
-loop-holds c = tt
-
-print-event-requires : tie.Need-print-event-requires Inv-loop μ-loop
-print-event-requires c κs = tt
-
-add-n : tie.Need-add-n Inv-loop μ-loop
-add-n c = search needs
-
-loop-less : tie.Need-loop-less Inv-loop μ-loop
-loop-less c = search needs
-
-loop-again : tie.Need-loop-again Inv-loop μ-loop
-loop-again c = tt
-
-returns : tie.Need-returns Inv-loop μ-loop
-returns c = tt
-
 pub write-events-spec : {M : Type 1} → statement M
 write-events-spec =
     tie.close
-    (tie.spec Inv-loop μ-loop loop-holds print-event-requires add-n loop-less loop-again returns)
+    (tie.spec
+    Inv-loop μ-loop (λ c. tt) (λ c κs. tt) (λ c. search needs) (λ c. search needs) (λ c. tt) (λ c. tt))
