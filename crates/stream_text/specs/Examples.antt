@@ -3,16 +3,13 @@ use Prim.Native.Nat.{ℕ, _+_}
 use mathlib.Core.Path.{_≡_}
 use mathlib.Core.List.{List, [], _∷_}
 use Rattle.run_text.specs.Examples.{siteHeader, siteSheet, stepsSheet, badRow}
+use Rattle.syslog.specs.Examples.{nils, atDoorSign, personSign, reasonSign}
 use Rattle.stream_text.specs.Stream.{eventsText}
-
--- `1 - - - - `
-abbrev pub nils : List ℕ → List ℕ
-nils more = 49 ∷ 32 ∷ 45 ∷ 32 ∷ 45 ∷ 32 ∷ 45 ∷ 32 ∷ 45 ∷ 32 ∷ more
 
 -- ` - door=0 person=0`, with these digits
 abbrev pub doorPerson : ℕ → ℕ → List ℕ → List ℕ
 doorPerson d p more =
-    32 ∷ 45 ∷ 32 ∷ 100 ∷ 111 ∷ 111 ∷ 114 ∷ 61 ∷ (48 + d) ∷ 32 ∷ 112 ∷ 101 ∷ 114 ∷ 115 ∷ 111 ∷ 110 ∷ 61 ∷ (48 + p) ∷ more
+    atDoorSign ((48 + d) ∷ personSign ((48 + p) ∷ more))
 
 -- `37 <86>1 - - - - GRANT - door=0 person=0`
 abbrev pub grantFrame : ℕ → ℕ → List ℕ → List ℕ
@@ -21,7 +18,7 @@ grantFrame d p more = 51 ∷ 55 ∷ 32 ∷ 60 ∷ 56 ∷ 54 ∷ 62 ∷ nils (71 
 -- `45 <85>1 - - - - DENY - door=1 person=0 reason=1`
 abbrev pub denyFrame : ℕ → ℕ → ℕ → List ℕ → List ℕ
 denyFrame d p reason more =
-    52 ∷ 53 ∷ 32 ∷ 60 ∷ 56 ∷ 53 ∷ 62 ∷ nils (68 ∷ 69 ∷ 78 ∷ 89 ∷ doorPerson d p (32 ∷ 114 ∷ 101 ∷ 97 ∷ 115 ∷ 111 ∷ 110 ∷ 61 ∷ (48 + reason) ∷ more))
+    52 ∷ 53 ∷ 32 ∷ 60 ∷ 56 ∷ 53 ∷ 62 ∷ nils (68 ∷ 69 ∷ 78 ∷ 89 ∷ doorPerson d p (reasonSign ((48 + reason) ∷ more)))
 
 -- `36 <86>1 - - - - PASS - door=0 person=0`
 abbrev pub passFrame : ℕ → ℕ → List ℕ → List ℕ
