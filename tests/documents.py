@@ -50,12 +50,18 @@ PARTS = {
     "blank_lists": ["Run"],
     "program_io": ["Run"],
     "sheet_files": ["Run"],
+    "syslog": ["Syslog"],
+    "syslog_write": ["Syslog"],
+    "syslog_read": ["Syslog"],
+    "stream_rows": ["Syslog"],
+    "stream_lists": ["Syslog", "Run"],
+    "stream": ["Run"],
 }
 # The crates whose specs/ say demand 1 and the uniqueness of answers, and the two records of `demands` that hold all their parts.
-SAID_IN = ["sheet_answers", "table_answers", "record_answers", "demands"]
+SAID_IN = ["sheet_answers", "syslog_answers", "table_answers", "record_answers", "demands"]
 WHOLE = {"Answers": "DemandOne", "Unique": "AnswersUnique"}
 # What these tell comes from outside, so that they have a promise and no field (docs/DEMANDS.md).
-OUTSIDE = {"sheet_files::read_sheet", "sheet_files::read_asked", "program_io::number_asked"}
+OUTSIDE = {"sheet_files::read_sheet", "sheet_files::read_asked", "sheet_files::read_input", "program_io::number_asked"}
 # What is said of every plan is said of each that `plan` puts together from its parts.
 PUT_TOGETHER = {"plan": "Plan"}
 

@@ -1,13 +1,14 @@
 -- The theorems of the panel, each under the letter's words. What each says is a record of named facts in `specs/`, a fact for each
 -- function or sentence with the papers' line beside it:
---     demand-1          `specs/DemandOne.antt`, with `sheet_answers/specs/Answers.antt`, `table_answers/specs/Answers.antt`, and
---                       `record_answers/specs/Answers.antt`, `record_answers/specs/Deeds.antt` and `record_answers/specs/Enums.antt`
+--     demand-1          `specs/DemandOne.antt`, with `sheet_answers/specs/Answers.antt`, `syslog_answers/specs/Answers.antt`,
+--                       `table_answers/specs/Answers.antt`, and `record_answers/specs/Answers.antt`, `record_answers/specs/Deeds.antt`
+--                       and `record_answers/specs/Enums.antt`
 --     demand-2          `specs/DemandTwo.antt`
 --     demand-3          `card_by_card/specs/Served.antt`, by `card_by_card/specs/Serving.antt`
 --     demand-3-printed  `specs/Bytes.antt`
 --     put-by-passages, refused-moves-nobody         `card_by_card/specs/Warden.antt`
 --     walks-out         `card_by_card/specs/Leaving.antt`
---     answers-unique    `specs/Unique.antt`, with specs/Unique.antt of the same three crates, and `record_answers/specs/Deeds.antt` and
+--     answers-unique    `specs/Unique.antt`, with specs/Unique.antt of the same four crates, and `record_answers/specs/Deeds.antt` and
 --                       `record_answers/specs/Enums.antt`
 --     twelve-cases      `paper_cases/specs/Cases.antt`
 -- They speak of the definitions that the promises in `src/` of each crate cite, so that they hold of the code. Assume nothing.
@@ -36,6 +37,8 @@ use Rattle.paper_cases.specs.Cases.{TwelveCases}
 use Rattle.sheet_answers.proofs.Sheets.{of-sheet}
 use Rattle.sheet_answers.proofs.Texts.{of-text}
 use Rattle.sheet_answers.proofs.Unique.{sheet-unique, text-unique}
+use Rattle.syslog_answers.proofs.Answers.{of-syslog}
+use Rattle.syslog_answers.proofs.Unique.{syslog-unique}
 use Rattle.table_answers.proofs.Tables.{of-tables, of-rules}
 use Rattle.table_answers.proofs.Doors.{of-door}
 use Rattle.table_answers.proofs.Unique.{tables-unique, rules-unique, door-unique}
@@ -63,6 +66,7 @@ demand-1 =
     record {
       of-sheet = of-sheet;
       of-text = of-text;
+      of-syslog = of-syslog;
       of-tables = of-tables;
       of-rules = of-rules;
       of-door = of-door;
@@ -138,6 +142,7 @@ answers-unique =
     record {
       of-sheet = sheet-unique;
       of-text = text-unique;
+      of-syslog = syslog-unique;
       of-tables = tables-unique;
       of-rules = rules-unique;
       of-door = door-unique;

@@ -1,5 +1,5 @@
 -- The theorems. `Demands` is the file to read: it has each by its name. The others prove their parts.
---     DemandOne, StepsSheet, Texts   demand 1 of a site sheet, of a steps sheet, and of the two texts
+--     DemandOne, StepsSheet, Texts   demand 1 of a site sheet, of a steps sheet, and of what the programs print
 --     Fits                           no text is too long for the programs' lists
 --     DemandTwo                      demand 2
 --     Unique                         answers are unique

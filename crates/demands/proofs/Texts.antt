@@ -1,4 +1,4 @@
--- Demand 1 of the two texts: no text is too long for the list that its program lends. Assumes nothing.
+-- Demand 1 of what the programs print: no text is too long for the list that its program lends. Assumes nothing.
 use Prim.Native.Nat.{ℕ, _+_, _*_, _≤_, _<_}
 use mathlib.Core.Path.{_≡_, refl, sym, ap, _∙_}
 use mathlib.Core.Bool.{Bool, true, false, true≢false, cond}
@@ -6,7 +6,7 @@ use mathlib.Core.List.{List, [], _++_}
 use native.Mathlib.Omega.{arith}
 use borrow.Author.Tests.{eqb-true, leb-true, leb-false}
 use lib.Dec.{eqb, ltb, leb}
-use lib.ListN.{length, getD, take, replicate, length-append, length-replicate}
+use lib.ListN.{length, getD, take, replicate, length-append}
 use lib.Seq.{getD-take, length-take-le}
 use Rattle.tables.specs.Tables.{Plan, mostPeople, mostLocations, mayBe, orElse, andAlso}
 use Rattle.site_lines.specs.Draft.{unmarked}
@@ -25,13 +25,14 @@ use Rattle.steps_sheet.specs.declared.Heading.{Heading}
 use Rattle.steps_sheet.specs.declared.Heading.the-variants as heading
 use Rattle.steps_sheet.specs.Steps.{headingOf, stepsFrom}
 use Rattle.steps_sheet.proofs.Theorems.{few-steps, headed-short}
-use Rattle.findings.specs.declared.Printed.the-variants.{Text}
-use Rattle.text.specs.Printed.{printedOf}
 use Rattle.run_text.specs.Printed.{panelHeader, whereHeader, panelRow, answerRows, lastRow, runText, aloneText, ranText, stepsText, panelText, placeRows, placesText, recordText, lastRecord, whereText}
 use Rattle.blank_lists.specs.{mostPanelText, mostWhereText}
+use Rattle.stream_text.specs.Stream.{eventsText}
+use Rattle.stream_text.proofs.Theorems.{events-text-fits}
 use Rattle.run_text.proofs.Serving.{replies-length}
 use Rattle.run_text.proofs.Sheets.{zero-accepted}
-use Rattle.sheet_answers.proofs.Texts.{printed-tells, text-tells}
+use Rattle.sheet_answers.proofs.Texts.{text-tells, blank-long, in-blank}
+use Rattle.syslog_answers.proofs.Answers.{read-events-fits}
 use Rattle.table_answers.proofs.Tables.{no-right-past}
 use Rattle.demands.specs.DemandOne.{RunAnswers}
 use Rattle.demands.proofs.DemandOne.{number-most}
@@ -112,13 +113,6 @@ where-fits site steps =
     (λ z. last-fits-where site (accepted-holds limit site (zero-accepted (siteOf site .verdict) (eqb-true _ _ z))) steps (headingOf steps))
     (λ _. none-fit)
 
--- so it is printed whole there
-blank-long : (n : ℕ) → length {A = ℕ} (replicate n 0) ≡ n
-blank-long n = length-replicate {A = ℕ} n 0
-
-in-blank : {most : ℕ} (text : List ℕ) → length text ≤ most → printedOf text (replicate most 0) ≡ Text (length text)
-in-blank {most} text h = let l = blank-long most in printed-tells text (replicate most 0) .a-length (omega arith)
-
 no-more-written : (list : List ℕ) (n : ℕ) → cond (leb n (length list)) n 0 ≤ length list
 no-more-written list n = either (λ (m : ℕ). m ≤ length list) (leb n (length list)) (λ h. leb-true n (length list) h) (λ _. omega arith)
 
@@ -136,11 +130,15 @@ of-run =
     record {
       panel-text = λ site steps out told after w. text-tells w;
       where-text = λ site steps out told after w. text-tells w;
+      events-text = λ site steps out told after w. text-tells w;
       blank-sheet = λ s h. let l = blank-long (limit + 1) in omega arith;
       blank-rights = nobody-may;
       write-text = no-more-written;
       panel-fits = panel-fits;
       where-fits = where-fits;
+      events-fits = events-text-fits;
+      read-events-fits = read-events-fits;
       blank-panel-text = λ site steps. in-blank (panelText site steps) (panel-fits site steps);
       blank-where-text = λ site steps. in-blank (whereText site steps) (where-fits site steps);
+      blank-events-text = λ site steps. in-blank (eventsText site steps) (events-text-fits site steps);
     }

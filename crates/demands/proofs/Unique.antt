@@ -26,11 +26,13 @@ run-unique =
     record {
       panel-text = λ site steps out. one-printed;
       where-text = λ site steps out. one-printed;
+      events-text = λ site steps out. one-printed;
       write-text = λ list n. alone;
       blank-sheet = alone;
       blank-rights = alone;
       blank-panel-text = alone;
       blank-where-text = alone;
+      blank-events-text = alone;
     }
 
 pub papers-unique : PapersUnique

@@ -2,8 +2,9 @@
 -- from the papers. A refusal alters no record and no list lent to it." Each field is a public function, and says what follows of
 -- the definition that its promise cites. A function that answers no number tells a place or a fact: the place is there, the fact
 -- is told exactly where its field has `Tells`, `Answers` or `↔`. The parts of the site sheet, of the steps sheet and of what is
--- printed are here. The others are in `sheet_answers/specs/Answers.antt`, `table_answers/specs/Answers.antt`, and
--- `record_answers/specs/Answers.antt`, `record_answers/specs/Deeds.antt` and `record_answers/specs/Enums.antt`.
+-- printed are here. The others are in `sheet_answers/specs/Answers.antt`, `syslog_answers/specs/Answers.antt`,
+-- `table_answers/specs/Answers.antt`, and `record_answers/specs/Answers.antt`, `record_answers/specs/Deeds.antt` and
+-- `record_answers/specs/Enums.antt`.
 use Prim.Native.Nat.{ℕ, _+_, _*_, _≤_, _<_}
 use mathlib.Core.Path.{_≡_}
 use mathlib.Core.Bool.{true, false, cond}
@@ -43,8 +44,11 @@ use Rattle.steps_sheet.specs.Steps.{stepsLineAt, headingOf}
 use Rattle.steps_sheet.specs.Lent.{mostIn, kindsIn, doorsIn, personsIn, decodedIn, kindsListed, doorsListed, personsListed}
 use Rattle.run_text.specs.Printed.{panelText, whereText}
 use Rattle.blank_lists.specs.{mostPanelText, mostWhereText}
+use Rattle.stream_lists.specs.{mostEventsText, mostRowsText}
+use Rattle.stream_text.specs.Stream.{eventsText}
 use Rattle.numbers.specs.Telling.{done, _unless_then_, NumberBy}
 use Rattle.sheet_answers.specs.Answers.{SheetAnswers, TextTells, TextAnswers}
+use Rattle.syslog_answers.specs.Answers.{RowsText, SyslogAnswers}
 use Rattle.table_answers.specs.Answers.{TablesAnswers, RulesAnswers, DoorAnswers}
 use Rattle.record_answers.specs.Answers.{SoundAnswers, RecordAnswers}
 use Rattle.record_answers.specs.Deeds.{DeedsAnswers}
@@ -122,13 +126,15 @@ pub record StepsAnswers : Type 0 where
   pub heading-of : (s : List ℕ) (h : Heading) → (headingOf s ≡ h) ↔ HeadingSays limit s h
   pub decode : (s : List ℕ) (from : ℕ) (kinds doors persons : List ℕ) → DecodeTells s from kinds doors persons
 
--- ---- crates `run`, `blank_lists` and `program_io`
+-- ---- crates `run`, `stream`, `blank_lists` and `program_io`, and the list of `stream_lists` for a stream that is printed
 
 pub record RunAnswers : Type 0 where
   pub panel-text : (site steps out : List ℕ) (told : Printed) (after : List ℕ) → Prints (panelText site steps) out told after
       → TextTells (panelText site steps) out told after
   pub where-text : (site steps out : List ℕ) (told : Printed) (after : List ℕ) → Prints (whereText site steps) out told after
       → TextTells (whereText site steps) out told after
+  pub events-text : (site steps out : List ℕ) (told : Printed) (after : List ℕ) → Prints (eventsText site steps) out told after
+      → TextTells (eventsText site steps) out told after
   -- the list for a sheet has a byte more than a sheet may have, so that a longer file is seen to be longer
   pub blank-sheet : (s : List ℕ) → length s ≤ limit → length s < length {A = ℕ} (replicate (limit + 1) 0)
   -- before any right is given nobody may be anywhere but outside
@@ -138,15 +144,19 @@ pub record RunAnswers : Type 0 where
   -- no text is too long for the lists that the programs lend,
   pub panel-fits : (site steps : List ℕ) → length (panelText site steps) ≤ mostPanelText
   pub where-fits : (site steps : List ℕ) → length (whereText site steps) ≤ mostWhereText
+  pub events-fits : (site steps : List ℕ) → length (eventsText site steps) ≤ mostEventsText
+  pub read-events-fits : (stream text : List ℕ) → RowsText stream text → length text ≤ mostRowsText
   -- so that each is printed whole in the list that is there for it
   pub blank-panel-text : (site steps : List ℕ) → printedOf (panelText site steps) (replicate mostPanelText 0) ≡ Text (length (panelText site steps))
   pub blank-where-text : (site steps : List ℕ) → printedOf (whereText site steps) (replicate mostWhereText 0) ≡ Text (length (whereText site steps))
+  pub blank-events-text : (site steps : List ℕ) → printedOf (eventsText site steps) (replicate mostEventsText 0) ≡ Text (length (eventsText site steps))
 
 -- ---- all of them
 
 pub record DemandOne : Type 0 where
   pub of-sheet : SheetAnswers
   pub of-text : TextAnswers
+  pub of-syslog : SyslogAnswers
   pub of-tables : TablesAnswers
   pub of-rules : RulesAnswers
   pub of-door : DoorAnswers

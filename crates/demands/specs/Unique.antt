@@ -2,7 +2,8 @@
 -- function: whatever its promise allows, the answer and what each lent list holds at exit, is one thing. The promise stands as in the
 -- function's `ensures`.
 -- The parts of the site sheet, of the steps sheet and of what is printed are here. The others are in specs/Unique.antt of the crates
--- `sheet_answers`, `table_answers` and `record_answers`, and in `record_answers/specs/Deeds.antt` and `record_answers/specs/Enums.antt`.
+-- `sheet_answers`, `syslog_answers`, `table_answers` and `record_answers`, and in `record_answers/specs/Deeds.antt` and
+-- `record_answers/specs/Enums.antt`.
 use Prim.Native.Nat.{ℕ, _+_, _*_}
 use mathlib.Core.Path.{_≡_}
 use mathlib.Core.Bool.{Bool, false, cond}
@@ -35,8 +36,11 @@ use Rattle.steps_sheet.specs.Steps.{stepsLineAt, headingOf}
 use Rattle.steps_sheet.specs.Lent.{decodedIn, kindsListed, doorsListed, personsListed}
 use Rattle.run_text.specs.Printed.{panelText, whereText}
 use Rattle.blank_lists.specs.{mostPanelText, mostWhereText}
+use Rattle.stream_lists.specs.{mostEventsText}
+use Rattle.stream_text.specs.Stream.{eventsText}
 use Rattle.numbers.specs.Telling.{Unique}
 use Rattle.sheet_answers.specs.Unique.{SheetUnique, TextUnique}
+use Rattle.syslog_answers.specs.Unique.{SyslogUnique}
 use Rattle.table_answers.specs.Unique.{TablesUnique, RulesUnique, DoorUnique}
 use Rattle.record_answers.specs.Unique.{SoundUnique, RecordUnique}
 use Rattle.record_answers.specs.Deeds.{DeedsUnique}
@@ -68,11 +72,14 @@ pub record RunUnique : Type 0 where
       → Unique (λ (x : Printed × List ℕ). Prints (panelText site steps) out (x .0) (x .1))
   pub where-text : (site steps out : List ℕ)
       → Unique (λ (x : Printed × List ℕ). Prints (whereText site steps) out (x .0) (x .1))
+  pub events-text : (site steps out : List ℕ)
+      → Unique (λ (x : Printed × List ℕ). Prints (eventsText site steps) out (x .0) (x .1))
   pub write-text : (list : List ℕ) (n : ℕ) → Unique (λ (x : ℕ). x ≡ cond (leb n (length list)) n 0)
   pub blank-sheet : Unique (λ (x : List ℕ). x ≡ replicate (limit + 1) 0)
   pub blank-rights : Unique (λ (x : List Bool). x ≡ replicate (mostPeople * mostLocations) false)
   pub blank-panel-text : Unique (λ (x : List ℕ). x ≡ replicate mostPanelText 0)
   pub blank-where-text : Unique (λ (x : List ℕ). x ≡ replicate mostWhereText 0)
+  pub blank-events-text : Unique (λ (x : List ℕ). x ≡ replicate mostEventsText 0)
 
 -- Where the papers say an answer by its conditions, not by a definition, they too allow one alone: the number and the place that
 -- the table gives a site sheet, the first reason that applies, and the heading and the steps of a steps sheet.
@@ -85,6 +92,7 @@ pub record PapersUnique : Type 0 where
 pub record AnswersUnique : Type 0 where
   pub of-sheet : SheetUnique
   pub of-text : TextUnique
+  pub of-syslog : SyslogUnique
   pub of-tables : TablesUnique
   pub of-rules : RulesUnique
   pub of-door : DoorUnique

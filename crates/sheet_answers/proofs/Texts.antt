@@ -1,5 +1,5 @@
 -- Demand 1 of texts in lent lists; what it says is in `specs/Answers.antt`. Assumes nothing.
-use Prim.Native.Nat.{ℕ}
+use Prim.Native.Nat.{ℕ, _≤_}
 use mathlib.Core.Path.{_≡_, refl, ap, _∙_}
 use mathlib.Core.Bool.{Bool, true, false}
 use mathlib.Core.List.{List, [], _∷_, _++_}
@@ -8,7 +8,7 @@ use native.Mathlib.Omega.{arith}
 use borrow.Author.Tests.{leb-true, leb-false}
 use lib.Dec.{leb}
 use native.Mathlib.Nat.{zero-add}
-use lib.ListN.{length, drop}
+use lib.ListN.{length, drop, replicate, length-replicate}
 use lib.Seq.{length-sets, sets-eq}
 use Rattle.findings.specs.declared.Printed.{Printed}
 use Rattle.findings.specs.declared.Printed.the-variants.{Text, TooShort}
@@ -48,11 +48,18 @@ printed-tells text out = go (leb (length text) (length out)) refl
 pub text-tells : {text out : List ℕ} {told : Printed} {after : List ℕ} → Prints text out told after → TextTells text out told after
 text-tells {text} {out} w = rw (w .answer, w .list) (printed-tells text out)
 
+-- a list of zeros, and a text that is no longer: it is printed whole there
+pub blank-long : (n : ℕ) → length {A = ℕ} (replicate n 0) ≡ n
+blank-long n = length-replicate {A = ℕ} n 0
+
+pub in-blank : {most : ℕ} (text : List ℕ) → length text ≤ most → printedOf text (replicate most 0) ≡ Text (length text)
+in-blank {most} text h = let l = blank-long most in printed-tells text (replicate most 0) .a-length (omega arith)
+
 a-text-number : (p : Printed) → OneOf (0 ∷ 13 ∷ []) (printedNo p)
 a-text-number (Text n) = inl refl
 a-text-number TooShort = inr (inl refl)
 
-written-told : {list : List ℕ} {at : ℕ} {text after : List ℕ} {next : ℕ} → Wrote list at text after next → TextWritten list at text after next
+pub written-told : {list : List ℕ} {at : ℕ} {text after : List ℕ} {next : ℕ} → Wrote list at text after next → TextWritten list at text after next
 unfolding wrote.behind
 written-told {list} {at} {text} w =
     let p = w .place in

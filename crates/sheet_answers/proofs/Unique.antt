@@ -9,7 +9,7 @@ use Rattle.numbers.proofs.Alone.{alone, beside}
 use Rattle.sheet_answers.specs.Unique.{SheetUnique, TextUnique}
 
 -- a text that is written has one place behind it and leaves one list, and one that is printed one answer and one list
-one-written : {list text : List ℕ} {at : ℕ} → Unique (λ (x : ℕ × List ℕ). Wrote list at text (x .1) (x .0))
+pub one-written : {list text : List ℕ} {at : ℕ} → Unique (λ (x : ℕ × List ℕ). Wrote list at text (x .1) (x .0))
 one-written x y p q = beside x y (p .place, p .list) (q .place, q .list)
 
 pub one-printed : {text list : List ℕ} → Unique (λ (x : Printed × List ℕ). Prints text list (x .0) (x .1))

@@ -1,7 +1,7 @@
 // `vectors`: runs numbered pairs of sheets and prints what they are told. The pairs are the files NNNN-site.csv and
 // NNNN-steps.csv of the folder that it is run in, from 0000 on; the last pair is the first of which neither file is there. For
-// each it prints a line `case NNNN`, a line `site,number,place,second` with what the site sheet is told, and the texts of `panel`
-// and `where`. Behind each text of a steps sheet of at most 1,024 bytes stands what a list gives that is one byte too short for
+// each it prints a line `case NNNN`, a line `site,number,place,second` with what the site sheet is told, the texts of `panel` and
+// `where`, and the stream of `events`, if there is one, with CRLF behind it. Behind each text of a steps sheet of at most 1,024 bytes stands what a list gives that is one byte too short for
 // it (13, and no byte of the list is altered) and one that is just long enough (0, and the text). tests/make-vectors makes the
 // sheets, and from the papers' reference what is expected.
 use blank_lists::blank_panel_text;
@@ -12,6 +12,8 @@ use run::texts::panel_text;
 use run::texts::where_text;
 use sheet_files::read_sheet;
 use site::read_site;
+use stream::texts::events_text;
+use stream_lists::blank_events_text;
 
 // The longest steps sheet whose texts also go into lists of their own length, and room for those.
 const MOST_SHORT: usize = 1024;
@@ -21,12 +23,14 @@ const MOST_LENT: usize = 2048;
 // How many pairs four digits can number.
 const MOST_CASES: usize = 10000;
 
-// Which of the two texts.
+// Which of the three texts.
 enum Text {
     // what `panel` prints
     Panel,
     // what `where` prints
     Where,
+    // what `events` prints
+    Events,
 }
 
 // The last decimal digit of a number.
@@ -38,6 +42,7 @@ fn text_of<'a>(text: Text, site: &'a [u8], steps: &'a [u8], out: &'a mut [u8]) -
     match text {
         Text::Panel => panel_text(site, steps, out),
         Text::Where => where_text(site, steps, out),
+        Text::Events => events_text(site, steps, out),
     }
 }
 
@@ -116,6 +121,24 @@ fn show<'a>(text: Text, site: &'a [u8], steps: &'a [u8]) {
     }
 }
 
+// The stream that lies at the start of a list, with CRLF behind it, and the lists beside it.
+fn write_stream<'a>(site: &'a [u8], steps: &'a [u8], out: &'a [u8], length: usize) {
+    if length <= out.len() {
+        io::write_all(STDOUT_FILENO, &out[0..length]);
+        io::write_all(STDOUT_FILENO, b"\r\n");
+        write_lent(Text::Events, site, steps, &out[0..length]);
+    }
+}
+
+fn show_events<'a>(site: &'a [u8], steps: &'a [u8]) {
+    let mut out = blank_events_text();
+    if let Printed::Text(length) = events_text(site, steps, &mut out) {
+        if 0 < length {
+            write_stream(site, steps, &out, length);
+        }
+    }
+}
+
 // What the site sheet is told: the paper's number, the place told with it and the second place.
 fn write_verdict(site: &[u8]) {
     let answer = read_site(site);
@@ -147,6 +170,7 @@ fn run_pair<'a>(site_name: &'a [u8], steps_name: &'a [u8]) -> bool {
     write_verdict(&site[..in_site]);
     show(Text::Panel, &site[..in_site], &steps[..in_steps]);
     show(Text::Where, &site[..in_site], &steps[..in_steps]);
+    show_events(&site[..in_site], &steps[..in_steps]);
     is_there(site_name) || is_there(steps_name)
 }
 

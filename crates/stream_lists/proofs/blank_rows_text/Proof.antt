@@ -1,8 +1,15 @@
--- `blank_rows_text` meets its contract. The prover finds this by itself; it is written down so that a wrong answer is refused without a second look.
--- Assumes nothing.
-use borrow.Author.Needs.{needs}
+-- `blank_rows_text` meets its contract: the list has as many zeros as it says. Said by the two numbers, since lists as long as this can't be
+-- compared entry by entry. Assumes nothing.
+use Prim.Native.Nat.{ℕ}
+use mathlib.Core.Path.{_≡_, refl, ap}
+use mathlib.Core.List.{List}
+use lib.ListN.{replicate}
+use Rattle.stream_lists.specs.{mostRowsText}
 use Rattle.stream_lists.proofs.blank_rows_text.Statement.{statement}
 use Rattle.stream_lists.proofs.blank_rows_text.Tie as tie
 
+as-many : _≡_ {A = ℕ} 524352 (mostRowsText)
+as-many = refl
+
 pub blank-rows-text-spec : {M : Type 1} → statement M
-blank-rows-text-spec = tie.close (tie.spec (λ c. search needs))
+blank-rows-text-spec = tie.close (tie.spec (λ c. ap {B = List ℕ} (λ (n : ℕ). replicate n 0) as-many))

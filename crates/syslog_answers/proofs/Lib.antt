@@ -1,0 +1,3 @@
+-- `Answers` proves demand 1 of syslog lines and streams, `Unique` that their answers are unique.
+pub mod Answers
+pub mod Unique
