@@ -165,7 +165,7 @@ make_ready() { # PROGRAM
 
 command_on_input() { # PROGRAM
     help_if_asked "$@"
-    [ $# -le 1 ] || fail "it reads standard input and takes no words; --help says more"
+    [ $# -le 1 ] || fail "it takes no words: give it the stream on standard input, as in ${0##*/} <FILE; --help says more"
     may_read_input || exec </dev/null
     make_ready "$1"
     run_and_say "$1"

@@ -30,7 +30,7 @@ STEPS = {"card", "decide", "green", "red", "walk", "tick", "passed", "lapsed", "
 # The MSGIDs of 02's syslog lines.
 MSGIDS = {"GRANT", "DENY", "PASS", "LAPSE"}
 # Words that stand for any name.
-ANY = {"NAME", "FILE", "FUNCTION", "PROGRAM", "NNNN"}
+ANY = {"NAME", "FILE", "FOLDER", "FUNCTION", "PROGRAM", "NNNN"}
 # What begins with one of these is said to another program.
 PROGRAMS = {"rt", "python3", "ssconvert", "sed", "head"}
 # What isn't ours, by where it stands.

@@ -59,7 +59,8 @@ def write(form, event, room):
 
 # ---- Reading
 
-# RFC 5424, section 6: a name for each part, NILVALUE among what it may be.
+# RFC 5424, section 6: a name for each part, NILVALUE among what it may be. The ranges of a time and UTF-8 aren't asked: with a time,
+# structured data or a byte of 128 and up it is no line of ours anyway.
 TIMESTAMP = rb"[0-9]{4}-[0-9]{2}-[0-9]{2}T[0-9]{2}:[0-9]{2}:[0-9]{2}(?:\.[0-9]{1,6})?(?:Z|[+-][0-9]{2}:[0-9]{2})"
 SD_NAME = rb"[!#-<>-\\^-~]{1,32}"
 SD_ELEMENT = rb"\[" + SD_NAME + rb"(?: " + SD_NAME + rb'="(?:[^"\\\]]|\\.)*")*\]'

@@ -48,8 +48,8 @@ pub fn read_asked<'a>(place: usize, otherwise: &'a [u8], sheet: &'a mut [u8]) ->
 }
 
 // The same of what comes on standard input.
-pub fn read_input(sheet: &mut [u8]) -> usize
-    ensures { λ r. ⌜ Counts r (now (sheet .exit)) ⌝ }
+pub fn read_input(stream: &mut [u8]) -> usize
+    ensures { λ r. ⌜ Counts r (now (stream .exit)) ⌝ }
 {
-    read_whole(libc::STDIN_FILENO, b"standard input", sheet)
+    read_whole(libc::STDIN_FILENO, b"standard input", stream)
 }

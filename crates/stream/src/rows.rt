@@ -16,7 +16,7 @@ use syslog::Msgid;
 use syslog_write::put_frame;
 use tables::MOST_DOORS;
 
-// Nobody's card is at any door.
+// Whose card is at each door before any is taken: 0, which no event tells, since a card is taken before.
 fn no_cards() -> [u16; MOST_DOORS]
     ensures { λ r. ⌜ r ≡ replicate mostDoors 0 ⌝ }
 {

@@ -51,7 +51,7 @@ fn print_events<'a>(
     Printed::Text(put_events(kinds, doors, persons, answers, phases, reasons, out))
 }
 
-// The steps of three lists, run from a record, and their events printed.
+// Runs the steps of three lists from a record and prints their events.
 fn print_run<'a>(
     fresh: Record,
     kinds: &'a [u8],
@@ -87,7 +87,7 @@ fn print_run<'a>(
     )
 }
 
-// The rows of a steps sheet from a position on, run, and their events printed.
+// Runs the rows of a steps sheet from a position on and prints their events.
 fn print_steps<'a>(fresh: Record, s: &'a [u8], from: usize, out: &'a mut [u8]) -> Printed
     requires { ⌜ soundB fresh ≡ true ⌝ }
     requires { ⌜ length (now s) ≤ limit ⌝ }

@@ -1,4 +1,4 @@
-// Lists of zeros that the programs lend: for a stream, for the stream that `events` prints, and for the text of `read-events`.
+// Lists of zeros that the programs lend: for a stream that is read, for the stream that `events` prints, and for the text of `read-events`.
 ghost use Prim.Native.Nat.{_+_};
 ghost use mathlib.Core.Path.{_≡_};
 ghost use lib.ListN.{replicate};
@@ -9,7 +9,7 @@ use stream_rows::MOST_STREAM;
 // One byte more than a stream may have, so that a longer one is seen to be longer.
 pub const STREAM_ROOM: usize = MOST_STREAM + 1;
 
-// A list of zeros for a stream.
+// A list of zeros for a stream that is read.
 pub fn blank_stream() -> [u8; STREAM_ROOM]
     ensures { λ r. ⌜ r ≡ replicate (mostStream + 1) 0 ⌝ }
 {

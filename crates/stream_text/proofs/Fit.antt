@@ -17,7 +17,7 @@ use Rattle.phases.specs.Phase.{keeps}
 use Rattle.phases.specs.Kinds.{StepRow}
 use Rattle.record.specs.declared.record.Record.{Record}
 use Rattle.record.specs.declared.steps.Step.{Step}
-use Rattle.record.specs.Doors.{planOf, doorOf, freshRecord, Shaped}
+use Rattle.record.specs.Doors.{planOf, doorOf, Shaped}
 use Rattle.record.specs.Sound.{Sound}
 use Rattle.record.specs.Steps.{First, none, away, barred, busy, reasonFor, doing}
 use Rattle.record.specs.Run.{rowOf}

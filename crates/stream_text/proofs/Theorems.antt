@@ -1,9 +1,9 @@
 -- The theorems of the stream of a run; what they say is in `specs/Claims.antt`. Assumes nothing.
---     events-fit          every event of a run from a sound record has a line
+--     events-fit          every event of a run from a sound record of at most 64 people has a line
 --     lines-tell          a line tells all of its event but the row
 --     stream-is-read      frame after frame a stream reads as the events of its run
 --     collector-knows     whoever reads it and has the site's sheet knows where everyone is
---     events-text-fits    no stream is longer than the list that the program lends
+--     events-text-fits    no stream has more than 50 bytes for each step that a sheet can have
 use Prim.Native.Nat.{ℕ, _≤_}
 use mathlib.Core.Path.{_≡_, refl, sym, ap, _∙_}
 use mathlib.Core.Bool.{Bool, true, false, cond}

@@ -26,7 +26,7 @@ use Rattle.stream_text.specs.Stream.{lineEvent, lineEventsIn, sheetEvent
 
 -- Every event of a run has a line: no door or person is over 63, and the reason fits.
 pub record EventsFit : Type 0 where
-  -- of every list of steps, from every sound record whose people are no more than a site's,
+  -- of every list of steps, from every sound record whose people are no more than a site's, with any spells that agree with its doors,
   pub of-a-run : (r : Record) → Shaped r → Sound r → r .people ≤ mostPeople → (spells : ℕ → Spell) (n : ℕ) → Agree spells r → (rows : List StepRow)
       → AllFit (map lineEvent (eventsOf spells n (heardOf r rows)))
   -- so from every fresh one,

@@ -11,7 +11,7 @@ use borrow.Author.Tests.{le-leb, ltb-true, ltb-false}
 use Rattle.tables.specs.Tables.{andAlso}
 use Rattle.text.specs.Text.{digitByte, decimal}
 use Rattle.text.proofs.Decimal.{decimal-short, decimal-long, four-digits}
-use Rattle.syslog.specs.Rfc.{EachByte, no-more, and, DIGIT, numberSaidFrom, numberSaid, MsgLen, msg-len}
+use Rattle.syslog.specs.Rfc.{EachByte, no-more, and, DIGIT, numberSaidFrom, numberSaid, NonzeroFirst, nonzero-first}
 use Rattle.syslog.specs.Guess.{isDigit, numberOn, numberFrom}
 
 -- what holds of numbers of one digit, and of a number where it holds of its tenth, holds of all
@@ -107,11 +107,11 @@ each-digit =
     by-digits (λ n. EachByte DIGIT (decimal n)) (λ n h. rw (decimal-short n h) (a-digit n h))
     (λ n h tenth. rw (decimal-long n h) (each-both tenth (a-digit (n % 10) (omega arith))))
 
--- "MSG-LEN = NONZERO-DIGIT *DIGIT"
-more-digits : {xs ys : List ℕ} → MsgLen xs → EachByte DIGIT ys → MsgLen (xs ++ ys)
-more-digits (msg-len b bs) ys = msg-len b (each-both bs ys)
+-- "NONZERO-DIGIT *DIGIT"
+more-digits : {xs ys : List ℕ} → NonzeroFirst xs → EachByte DIGIT ys → NonzeroFirst (xs ++ ys)
+more-digits (nonzero-first b bs) ys = nonzero-first b (each-both bs ys)
 
-pub count-digits : (n : ℕ) → 1 ≤ n → MsgLen (decimal n)
+pub count-digits : (n : ℕ) → 1 ≤ n → NonzeroFirst (decimal n)
 count-digits =
-    by-digits (λ n. 1 ≤ n → MsgLen (decimal n)) (λ n h l. rw (decimal-short n h) (msg-len {b = 48 + n} (omega arith, omega arith) no-more))
+    by-digits (λ n. 1 ≤ n → NonzeroFirst (decimal n)) (λ n h l. rw (decimal-short n h) (nonzero-first {b = 48 + n} (omega arith, omega arith) no-more))
     (λ n h tenth l. rw (decimal-long n h) (more-digits (tenth (omega arith)) (a-digit (n % 10) (omega arith))))

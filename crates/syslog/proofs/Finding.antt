@@ -1,5 +1,5 @@
 -- What a list of bytes reads as is found by the guess: where the text isn't the guess's own, no event has it. Assumes nothing.
-use Prim.Native.Nat.{ℕ, zero, suc, _+_, _≤_, _<_}
+use Prim.Native.Nat.{ℕ, _+_, _≤_, _<_}
 use mathlib.Core.Path.{_≡_, refl, sym, ap, subst, _∙_}
 use mathlib.Core.Bool.{Bool, true, false}
 use mathlib.Core.List.{List, [], _∷_, _++_, append-assoc}
@@ -21,7 +21,7 @@ use Rattle.syslog.specs.Reading.{LineIs, ReadsLine, FrameAt, ReadsFrame}
 use Rattle.syslog.specs.Guess.{isDigit, numberFrom, guessOf, frameSize}
 use Rattle.syslog.proofs.Digits.{Stops, at-byte, number-back}
 use Rattle.syslog.proofs.Fit.{fits-tells}
-use Rattle.syslog.proofs.Lengths.{line-least, line-short, frame-is}
+use Rattle.syslog.proofs.Lengths.{line-short, frame-is}
 use Rattle.syslog.proofs.Guessing.{guess-line, guess-frame}
 
 -- ---- lines

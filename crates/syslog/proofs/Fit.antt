@@ -1,6 +1,5 @@
 -- The test whether an event fits tells whether it does. Assumes nothing.
 use Prim.Native.Nat.{ℕ}
-use mathlib.Core.Path.{_≡_}
 use Rattle.tables.specs.Below.{Tells}
 use Rattle.tables.proofs.Laws.{tell-and, tell-le, tell-eq}
 use Rattle.syslog.specs.declared.Msgid.{Msgid}

@@ -2,8 +2,8 @@
 use Prim.Native.Nat.{ℕ, _+_, _*_, _≤_}
 use mathlib.Core.Path.{_≡_, refl, ap}
 use mathlib.Core.Bool.{Bool, true}
-use mathlib.Core.List.{List, [], _∷_, _++_}
-use mathlib.Core.Logic.{inl}
+use mathlib.Core.List.{List, [], _∷_}
+use mathlib.Core.Logic.{inl, inr}
 use native.Mathlib.Omega.{arith}
 use lib.ListN.{length}
 use lib.Dec.{leb}
@@ -16,7 +16,7 @@ use Rattle.syslog.specs.declared.Msgid.the-variants.{Grant, Deny, Pass, 
 use Rattle.syslog.specs.declared.LineEvent.{LineEvent}
 use Rattle.syslog.specs.Line.{facility, severityOf, nameOf, doorMark, personMark, reasonMark, reasonPart, messageOf, lineOf, framedOf, streamOf}
 use Rattle.syslog.specs.Rfc as rfc
-use Rattle.syslog.specs.Rfc.{EachByte, no-more, and, From_To_, OCTET, DIGIT, PRINTUSASCII, numberSaid, PriVal, Version, version, Printable, MsgId, Msg, any, msg, nilValue, bom, Priority, IsSyslogMsg, IsFrame, TcpData}
+use Rattle.syslog.specs.Rfc.{EachByte, no-more, and, From_To_, OCTET, PriVal, version, Printable, MsgId, Msg, any, msg, nilValue, TcpData}
 use Rattle.syslog.specs.Claims.{partsOf, LineIsRfc5424, FrameIsRfc6587}
 use Rattle.syslog.proofs.Digits.{said-back, each-both, each-digit, count-digits}
 use Rattle.syslog.proofs.Lengths.{line-least}
@@ -24,11 +24,11 @@ use Rattle.text.proofs.Decimal.{decimal-some, digits-most}
 
 -- ---- each byte of a text, by a test
 
-unfoldable allWithin : ℕ → ℕ → List ℕ → Bool
+unfoldable pub allWithin : ℕ → ℕ → List ℕ → Bool
 allWithin least most [] = true
 allWithin least most (b ∷ bs) = andAlso (andAlso (leb least b) (leb b most)) (allWithin least most bs)
 
-each-within : (least most : ℕ) (bs : List ℕ) → allWithin least most bs ≡ true → EachByte (From_To_ least most) bs
+pub each-within : (least most : ℕ) (bs : List ℕ) → allWithin least most bs ≡ true → EachByte (From_To_ least most) bs
 unfolding allWithin
 each-within least most [] e = no-more
 each-within least most (b ∷ bs) e =
@@ -54,8 +54,8 @@ severity-few Deny = omega arith
 severity-few Pass = omega arith
 severity-few Lapse = omega arith
 
-pri-is : (n : ℕ) → n ≤ 191 → PriVal (decimal n)
-pri-is n h = record { each = each-digit n; some = decimal-some n; few = digits-most 2 n (omega arith); range = rw (said-back n) h }
+pri-is : (n : ℕ) → 1 ≤ n → n ≤ 191 → PriVal (decimal n)
+pri-is n l h = record { each = each-digit n; zeros = inr (count-digits n l); some = decimal-some n; few = digits-most 2 n (omega arith); range = rw (said-back n) (omega arith) }
 
 nil-is : (most : ℕ) → 1 ≤ most → Printable most nilValue
 nil-is most h = record { each = and {b = 45} (omega arith, omega arith) no-more; some = omega arith; few = h }
@@ -98,7 +98,7 @@ line-message e =
       message =
           record {
             is = refl;
-            pri = pri-is (facility * 8 + severityOf (e .msgid)) (omega arith);
+            pri = pri-is (facility * 8 + severityOf (e .msgid)) (omega arith) (omega arith);
             version = version {b = 49} (omega arith, omega arith) no-more (omega arith);
             timestamp = inl refl;
             hostname = nil-is 255 (omega arith);

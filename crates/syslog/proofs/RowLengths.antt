@@ -1,14 +1,13 @@
 -- How long the rows of a stream are: no row is longer than its frame. Assumes nothing.
 use Prim.Native.Nat.{ℕ, _+_, _-_, _≤_, _<_}
-use mathlib.Core.Path.{_≡_}
-use mathlib.Core.Bool.{Bool, true, false}
+use mathlib.Core.Bool.{Bool}
 use mathlib.Core.List.{List, [], _∷_, _++_}
 use native.Mathlib.Omega.{arith}
 use lib.ListN.{length, length-append}
-use Rattle.numbers.specs.Numbers.{tooLongNo, notALineNo}
+use Rattle.numbers.specs.Numbers.{notALineNo}
 use Rattle.grammar.specs.Grammar.{comma}
 use Rattle.text.specs.Text.{digits, decimal, rowOfNumbers}
-use Rattle.text.proofs.Decimal.{one-digit, two-digits}
+use Rattle.text.proofs.Decimal.{one-digit}
 use Rattle.text.proofs.Rows.{last-length, more-length}
 use Rattle.syslog.specs.declared.Msgid.{Msgid}
 use Rattle.syslog.specs.declared.Msgid.the-variants.{Grant, Deny, Pass, Lapse}
@@ -64,7 +63,7 @@ rows-few (more {e = e} {es = es} {whole = whole} x on) =
     let next = x .behind-it in
     omega (arith, onward .0, onward .1)
 
--- the list of the program `read_events` has room for every text of a stream
+-- no text of a stream has more than 64 bytes beyond the longest stream
 pub stream-rows-few : (s : List ℕ) (es : List LineEvent) (whole : Bool) → length s ≤ mostStream → StreamSays s 0 es whole → length (streamRows es whole) ≤ mostStream + 64
 unfolding streamRows
 stream-rows-few s es whole h says = let a = length-append eventsHeader (eventRows es whole) in let b = rows-few says in omega arith

@@ -1,8 +1,8 @@
 -- The loop over the frames of a stream: what is still to be written is the rows of what the rest of the stream says. Assumes nothing.
 use Prim.Native.Nat.{ℕ, _≤_}
 use mathlib.Core.Path.{_≡_, refl, sym, ap, subst, _∙_}
-use mathlib.Core.Bool.{Bool, true, false}
-use mathlib.Core.List.{List, [], _∷_, _++_}
+use mathlib.Core.Bool.{Bool}
+use mathlib.Core.List.{List}
 use lib.ListN.{length}
 use lib.Seq.{length-sets}
 use Rattle.numbers.specs.Numbers.{notALineNo}

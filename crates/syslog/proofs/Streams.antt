@@ -1,6 +1,6 @@
 -- Streams: what is told of a place and of a whole stream is one thing, and a stream of frames reads as its events. Assumes nothing.
 use Prim.Native.Nat.{ℕ, zero, suc, _+_, _-_, _<_}
-use mathlib.Core.Path.{_≡_, refl, sym, ap, subst, _∙_}
+use mathlib.Core.Path.{_≡_, refl, sym, ap, subst}
 use mathlib.Core.Bool.{Bool, true, false}
 use mathlib.Core.List.{List, [], _∷_, _++_, append-assoc, append-nil}
 use native.Mathlib.Omega.{arith}
@@ -10,8 +10,8 @@ use Rattle.syslog.specs.declared.LineRead.{LineRead}
 use Rattle.syslog.specs.declared.LineRead.the-variants as line
 use Rattle.syslog.specs.declared.FrameRead.{FrameRead}
 use Rattle.syslog.specs.declared.FrameRead.the-variants as frame
-use Rattle.syslog.specs.Line.{framedOf, streamOf, Fits, AllFit, no-more, fits}
-use Rattle.syslog.specs.Reading.{ReadsLine, FrameAt, ReadsFrame, StreamSays, ends, breaks, more}
+use Rattle.syslog.specs.Line.{framedOf, streamOf, AllFit, no-more, fits}
+use Rattle.syslog.specs.Reading.{ReadsLine, FrameAt, ReadsFrame, StreamSays, ends, breaks, more, StreamReading}
 use Rattle.syslog.proofs.Finding.{line-once, frame-once, frame-onward, frame-reads}
 
 -- ---- one answer
@@ -68,11 +68,6 @@ pub stream-back : (es : List LineEvent) → AllFit es → StreamSays (streamOf e
 stream-back es f = behind-front es [] f
 
 -- ---- every stream reads as something
-
-pub record StreamReading (s : List ℕ) (at : ℕ) : Type 0 where
-  pub events : List LineEvent
-  pub whole : Bool
-  pub says : StreamSays s at events whole
 
 -- `left` bounds what is left of the stream
 reads-on : (s : List ℕ) (left at : ℕ) → length s - at < left → StreamReading s at

@@ -11,25 +11,21 @@
 --     one-stream-reading            and no stream has two readings
 --     every-line-reads, every-frame-reads, every-stream-reads      and each list of bytes has one
 use Prim.Native.Nat.{ℕ}
-use mathlib.Core.Path.{_≡_, refl, sym, ap, subst, _∙_}
+use mathlib.Core.Path.{_≡_, refl, sym, subst}
 use mathlib.Core.Bool.{Bool, true}
 use mathlib.Core.List.{List}
-use lib.ListN.{length, take}
 use Rattle.syslog.specs.declared.LineEvent.{LineEvent}
-use Rattle.syslog.specs.declared.LineWritten.{LineWritten}
-use Rattle.syslog.specs.declared.LineWritten.the-variants as writing
 use Rattle.syslog.specs.declared.LineRead.{LineRead}
 use Rattle.syslog.specs.declared.LineRead.the-variants as line
 use Rattle.syslog.specs.declared.FrameRead.{FrameRead}
 use Rattle.syslog.specs.declared.FrameRead.the-variants as frame
-use Rattle.syslog.specs.Line.{lineOf, framedOf, streamOf, Fits, AllFit}
-use Rattle.syslog.specs.Lent.{Writes}
+use Rattle.syslog.specs.Line.{lineOf, streamOf, Fits, AllFit}
 use Rattle.syslog.specs.Rfc.{TcpData}
-use Rattle.syslog.specs.Reading.{LineIs, ReadsLine, ReadsFrame, StreamSays}
+use Rattle.syslog.specs.Reading.{LineIs, ReadsLine, ReadsFrame, StreamSays, StreamReading}
 use Rattle.syslog.specs.Claims.{LineIsRfc5424, FrameIsRfc6587, ReadBack, OnlyLinesRead, OnlyFramesRead}
 use Rattle.syslog.proofs.Message.{line-message, frame-frame, stream-data}
 use Rattle.syslog.proofs.Finding.{line-once, line-reads, frame-reads}
-use Rattle.syslog.proofs.Streams.{line-told-once, frame-told-once, says-once, stream-back, StreamReading, stream-reads}
+use Rattle.syslog.proofs.Streams.{line-told-once, frame-told-once, says-once, stream-back, stream-reads}
 use Rattle.syslog.proofs.Written.{written-line, written-frame}
 
 pub lines-are-rfc5424 : (e : LineEvent) → LineIsRfc5424 e

@@ -2,13 +2,12 @@
 use Prim.Native.Nat.{ℕ, _+_, _≤_}
 use mathlib.Core.Path.{_≡_, refl, sym, ap, _∙_}
 use mathlib.Core.Bool.{Bool, true, false, cond}
-use mathlib.Core.List.{List, [], _∷_, _++_}
+use mathlib.Core.List.{List, [], _++_}
 use native.Mathlib.Omega.{arith}
 use native.Mathlib.Nat.{zero-add}
 use lib.ListN.{length, take, drop}
-use lib.Dec.{leb}
 use borrow.Author.Tests.{leb-true}
-use lib.Seq.{sets, sets-eq, take-append-seam}
+use lib.Seq.{sets-eq, take-append-seam}
 use Rattle.findings.specs.declared.Printed.{Printed}
 use Rattle.findings.specs.declared.Printed.the-variants as printed
 use Rattle.tables.specs.Below.{Tells}

@@ -1,7 +1,7 @@
 -- What the theorems of proofs/Theorems.antt say, where that takes more than a line. 02, C-11, and the RFCs.
 use Prim.Native.Nat.{ℕ, _+_, _*_}
 use mathlib.Core.Path.{_≡_}
-use mathlib.Core.List.{List, [], _∷_, _++_}
+use mathlib.Core.List.{List, [], _∷_}
 use lib.ListN.{length, take}
 use Rattle.text.specs.Text.{decimal}
 use Rattle.syslog.specs.declared.LineEvent.{LineEvent}
@@ -15,7 +15,7 @@ use Rattle.syslog.specs.Rfc.{numberSaid, Priority, nilValue, SyslogMsg, 
 use Rattle.syslog.specs.Reading.{LineIs, ReadsLine, FrameAt}
 use Rattle.syslog.specs.Lent.{Writes}
 
--- the parts of an event's line: "every other header field nil"
+-- the parts of an event's line. The issue of C-11: "every other header field nil"
 abbrev pub partsOf : LineEvent → SyslogMsg
 partsOf e =
     record {

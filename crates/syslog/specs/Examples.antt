@@ -1,12 +1,12 @@
--- Lines as the papers and the RFCs have them, byte for byte.
+-- Lines as the papers have them, byte for byte, and small texts that the RFCs allow and don't.
 use mathlib.Core.Path.{_≡_}
-use mathlib.Core.List.{List, [], _∷_, _++_}
-use lib.ListN.{length}
+use mathlib.Core.List.{List, [], _∷_}
 use Prim.Native.Nat.{ℕ}
 use Rattle.syslog.specs.declared.Msgid.the-variants.{Grant, Deny, Pass, Lapse}
 use Rattle.syslog.specs.declared.LineEvent.{LineEvent}
 use Rattle.syslog.specs.Line.{lineOf, framedOf}
 use Rattle.syslog.specs.Rows.{eventRow, refusedRow}
+use Rattle.syslog.specs.Rfc.{PriVal, Version, Hostname, MsgId, daysOf, Timestamp, StructuredData, MsgLen}
 
 -- `1 - - - - `, and ` - door=`
 abbrev pub nils : List ℕ → List ℕ
@@ -45,3 +45,22 @@ pub record LineExamples : Type 0 where
   -- `0,GRANT,3,1,0` and `15,,0,0,0`
   pub row : eventRow granted31 ≡ 48 ∷ 44 ∷ 71 ∷ 82 ∷ 65 ∷ 78 ∷ 84 ∷ 44 ∷ 51 ∷ 44 ∷ 49 ∷ 44 ∷ 48 ∷ 13 ∷ 10 ∷ []
   pub refused-row : refusedRow 15 ≡ 49 ∷ 53 ∷ 44 ∷ 44 ∷ 48 ∷ 44 ∷ 48 ∷ 44 ∷ 48 ∷ 13 ∷ 10 ∷ []
+
+-- Texts that are in the grammar of the RFCs and texts that aren't, of the parts that our lines have and of those that they leave nil.
+pub record RfcExamples : Type 0 where
+  -- `<0>` and `<191>` are the ends of the range; `<192>` is past it, and `<086>` has a needless zero
+  pub pri-ends : PriVal (48 ∷ []) × PriVal (49 ∷ 57 ∷ 49 ∷ [])
+  pub pri-192 : PriVal (49 ∷ 57 ∷ 50 ∷ []) → ⊥
+  pub pri-086 : PriVal (48 ∷ 56 ∷ 54 ∷ []) → ⊥
+  -- no version 0, no field of no bytes, no blank in a field, no empty element, no count `037`
+  pub version-0 : Version (48 ∷ []) → ⊥
+  pub empty-host : Hostname [] → ⊥
+  pub blank-in-msgid : MsgId (71 ∷ 32 ∷ []) → ⊥
+  pub empty-element : StructuredData (91 ∷ 93 ∷ []) → ⊥
+  pub count-037 : MsgLen (48 ∷ 51 ∷ 55 ∷ []) → ⊥
+  -- the time of the RFC's first example, in October 2003
+  pub time : Timestamp (50 ∷ 48 ∷ 48 ∷ 51 ∷ 45 ∷ 49 ∷ 48 ∷ 45 ∷ 49 ∷ 49 ∷ 84 ∷ 50 ∷ 50 ∷ 58 ∷ 49 ∷ 52 ∷ 58 ∷ 49 ∷ 53 ∷ 46 ∷ 48 ∷ 48 ∷ 51 ∷ 90 ∷ [])
+  -- February has 29 days in 2000 and 2004, and 28 in 1900 and 2003
+  pub februaries : (daysOf 2000 2 ≡ 29) × (daysOf 2004 2 ≡ 29) × (daysOf 1900 2 ≡ 28) × (daysOf 2003 2 ≡ 28)
+  -- `[a b="c"]` is structured data
+  pub element : StructuredData (91 ∷ 97 ∷ 32 ∷ 98 ∷ 61 ∷ 34 ∷ 99 ∷ 34 ∷ 93 ∷ [])

@@ -1,7 +1,7 @@
 -- How the reader finds the event with whose line it compares. It never parses strictly: a guess is made of any bytes, and what decides
 -- is the comparison. No public promise cites what stands here; the proofs and the private functions do.
 use Prim.Native.Nat.{ℕ, zero, suc, _+_, _-_, _*_}
-use mathlib.Core.Bool.{Bool, true, false, cond}
+use mathlib.Core.Bool.{Bool, cond}
 use mathlib.Core.List.{List, [], _∷_}
 use lib.Dec.{eqb, ltb, leb}
 use Rattle.tables.specs.Tables.{andAlso}
@@ -33,7 +33,7 @@ numberOn zero n bs = n
 numberOn (suc more) n [] = n
 numberOn (suc more) n (b ∷ bs) = cond (isDigit b) (numberOn more (n * 10 + (b - 48)) bs) n
 
--- no number of a line, nor its octet count, has more than four digits
+-- a guess looks at four digits; no number of a line that fits, and no octet count, has more than two
 abbrev pub numberFrom : List ℕ → ℕ
 numberFrom bs = numberOn 4 0 bs
 

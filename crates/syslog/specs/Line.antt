@@ -52,7 +52,7 @@ reasonPart Lapse reason = []
 abbrev pub messageOf : LineEvent → List ℕ
 messageOf e = doorMark ++ (decimal (e .door) ++ (personMark ++ (decimal (e .person) ++ reasonPart (e .msgid) (e .reason))))
 
--- `<86>1 - - - - GRANT - `: "The time is nil", and so is every other field of the header
+-- `<86>1 - - - - GRANT - `: version 1; "The time is nil", and so are the host, the program, its number and the structured data
 unfoldable pub lineOf : LineEvent → List ℕ
 lineOf e =
     60 ∷ (decimal (facility * 8 + severityOf (e .msgid))

@@ -43,3 +43,9 @@ pub data StreamSays (s : List ℕ) : ℕ → List LineEvent → Bool → Type 0 
   breaks : {at : ℕ} → ReadsFrame s at frame.NotOurs → StreamSays s at [] false
   more : {at next : ℕ} {e : LineEvent} {es : List LineEvent} {whole : Bool} → ReadsFrame s at (frame.Frame e next) → StreamSays s next es whole
       → StreamSays s at (e ∷ es) whole
+
+-- what a stream says from a place on
+pub record StreamReading (s : List ℕ) (at : ℕ) : Type 0 where
+  pub events : List LineEvent
+  pub whole : Bool
+  pub says : StreamSays s at events whole

@@ -1,11 +1,13 @@
 -- What a syslog message and a frame of a stream are, by the RFCs and not by our lines. RFC 5424, section 6, has the message, RFC 6587,
 -- section 3.4.1, the frame, RFC 3629, section 4, UTF-8. Each definition has the line of the RFC's grammar that it says. Characters are
 -- told by their bytes: 32 is a blank (SP), 45 is `-`.
-use Prim.Native.Nat.{ℕ, _+_, _*_, _-_, _≤_}
+use Prim.Native.Nat.{ℕ, _+_, _*_, _-_, _%_, _≤_}
 use mathlib.Core.Path.{_≡_}
+use mathlib.Core.Bool.{Bool, true, false, cond}
 use mathlib.Core.List.{List, [], _∷_, _++_}
 use mathlib.Core.Logic.{_⊎_}
 use lib.ListN.{length}
+use lib.Dec.{eqb}
 
 -- ---- bytes
 
@@ -44,6 +46,10 @@ numberSaidFrom n (b ∷ bs) = numberSaidFrom (n * 10 + (b - 48)) bs
 abbrev pub numberSaid : List ℕ → ℕ
 numberSaid digits = numberSaidFrom 0 digits
 
+-- "NONZERO-DIGIT *DIGIT"
+pub data NonzeroFirst : List ℕ → Type 0 where
+  nonzero-first : {b : ℕ} {bs : List ℕ} → NONZERO-DIGIT b → EachByte DIGIT bs → NonzeroFirst (b ∷ bs)
+
 -- "UTF-8-STRING = *OCTET ; UTF-8 string as specified in RFC 3629": "UTF8-octets = *( UTF8-char )", and "UTF8-tail = %x80-BF"
 abbrev pub Tail : ℕ → Type 0
 Tail = From_To_ 128 191
@@ -65,9 +71,11 @@ pub data Utf8 : List ℕ → Type 0 where
 
 -- ---- the header: "HEADER = PRI VERSION SP TIMESTAMP SP HOSTNAME SP APP-NAME SP PROCID SP MSGID"
 
--- "PRI = "<" PRIVAL ">"", "PRIVAL = 1*3DIGIT ; range 0 .. 191"
+-- "PRI = "<" PRIVAL ">"", "PRIVAL = 1*3DIGIT ; range 0 .. 191"; "The only time a value of "0" follows the "<" is for the Priority
+-- value of "0". Otherwise, leading "0"s MUST NOT be used."
 pub record PriVal (digits : List ℕ) : Type 0 where
   pub each : EachByte DIGIT digits
+  pub zeros : (digits ≡ 48 ∷ []) ⊎ NonzeroFirst digits
   pub some : 1 ≤ length digits
   pub few : length digits ≤ 3
   pub range : numberSaid digits ≤ 191
@@ -119,8 +127,16 @@ pub data Offset : List ℕ → Type 0 where
   offset : {sign : ℕ} {text : List ℕ} (hour minute : List ℕ) → (sign ≡ 43) ⊎ (sign ≡ 45) → TwoDigits 0 23 hour → TwoDigits 0 59 minute
       → text ≡ hour ++ (58 ∷ minute) → Offset (sign ∷ text)
 
+-- "DATE-MDAY = 2DIGIT ; 01-28, 01-29, 01-30, 01-31 based on month/year"
+unfoldable pub isLeap : ℕ → Bool
+isLeap year = cond (eqb (year % 400) 0) true (cond (eqb (year % 100) 0) false (eqb (year % 4) 0))
+
+unfoldable pub daysOf : ℕ → ℕ → ℕ
+daysOf year month =
+    cond (eqb month 2) (cond (isLeap year) 29 28) (cond (eqb month 4) 30 (cond (eqb month 6) 30 (cond (eqb month 9) 30 (cond (eqb month 11) 30 31))))
+
 -- "FULL-DATE "T" FULL-TIME", "FULL-DATE = DATE-FULLYEAR "-" DATE-MONTH "-" DATE-MDAY", "FULL-TIME = PARTIAL-TIME TIME-OFFSET",
--- "PARTIAL-TIME = TIME-HOUR ":" TIME-MINUTE ":" TIME-SECOND [TIME-SECFRAC]". That a month has the day isn't asked here.
+-- "PARTIAL-TIME = TIME-HOUR ":" TIME-MINUTE ":" TIME-SECOND [TIME-SECFRAC]"
 pub record Moment (text : List ℕ) : Type 0 where
   pub year : List ℕ
   pub month : List ℕ
@@ -134,7 +150,7 @@ pub record Moment (text : List ℕ) : Type 0 where
   pub four-digits : length year ≡ 4
   pub years : EachByte DIGIT year
   pub months : TwoDigits 1 12 month
-  pub days : TwoDigits 1 31 day
+  pub days : TwoDigits 1 (daysOf (numberSaid year) (numberSaid month)) day
   pub hours : TwoDigits 0 23 hour
   pub minutes : TwoDigits 0 59 minute
   pub seconds : TwoDigits 0 59 second
@@ -171,15 +187,21 @@ pub data Params : List ℕ → Type 0 where
   param : {text : List ℕ} (name value rest : List ℕ) → SdName name → Utf8 value → Escaped value → Params rest
       → text ≡ name ++ (61 ∷ 34 ∷ (value ++ (34 ∷ rest))) → Params (32 ∷ text)
 
--- "SD-ELEMENT = "[" SD-ID *(SP SD-PARAM) "]"", "SD-ID = SD-NAME"; some of them, one behind the other
-pub data Elements : List ℕ → Type 0 where
-  no-more : Elements []
-  element : {text : List ℕ} (name params rest : List ℕ) → SdName name → Params params → Elements rest → text ≡ name ++ (params ++ (93 ∷ rest))
-      → Elements (91 ∷ text)
+-- a name is none of these
+pub data NotAmong (name : List ℕ) : List (List ℕ) → Type 0 where
+  no-more : NotAmong name []
+  nor : {other : List ℕ} {others : List (List ℕ)} → (name ≡ other → ⊥) → NotAmong name others → NotAmong name (other ∷ others)
+
+-- "SD-ELEMENT = "[" SD-ID *(SP SD-PARAM) "]"", "SD-ID = SD-NAME"; some of them, with these names, one behind the other: "The same SD-ID
+-- MUST NOT exist more than once in a message."
+pub data Elements : List (List ℕ) → List ℕ → Type 0 where
+  no-more : Elements [] []
+  element : {names : List (List ℕ)} {text : List ℕ} (name params rest : List ℕ) → SdName name → NotAmong name names → Params params
+      → Elements names rest → text ≡ name ++ (params ++ (93 ∷ rest)) → Elements (name ∷ names) (91 ∷ text)
 
 -- "STRUCTURED-DATA = NILVALUE / 1*SD-ELEMENT"
 abbrev pub StructuredData : List ℕ → Type 0
-StructuredData text = (text ≡ nilValue) ⊎ (Elements text × (1 ≤ length text))
+StructuredData text = (text ≡ nilValue) ⊎ ((names : List (List ℕ)) × Elements names text × (1 ≤ length names))
 
 -- ---- the message
 
@@ -196,7 +218,7 @@ pub data OptionalMsg : List ℕ → Type 0 where
   no-msg : OptionalMsg []
   msg : {text : List ℕ} → Msg text → OptionalMsg (32 ∷ text)
 
--- the parts of a message, as text
+-- the parts of a message, as text; `ending` is "[SP MSG]", the blank with the MSG, or nothing
 pub record SyslogMsg : Type 0 where
   pub pri : List ℕ
   pub version : List ℕ
@@ -230,8 +252,8 @@ pub record IsSyslogMsg (text : List ℕ) (m : SyslogMsg) : Type 0 where
 -- ---- the frame: RFC 6587, 3.4.1
 
 -- "MSG-LEN = NONZERO-DIGIT *DIGIT"
-pub data MsgLen : List ℕ → Type 0 where
-  msg-len : {b : ℕ} {bs : List ℕ} → NONZERO-DIGIT b → EachByte DIGIT bs → MsgLen (b ∷ bs)
+abbrev pub MsgLen : List ℕ → Type 0
+MsgLen = NonzeroFirst
 
 -- "SYSLOG-FRAME = MSG-LEN SP SYSLOG-MSG"; "MSG-LEN is the octet count of the SYSLOG-MSG in the SYSLOG-FRAME."
 pub record IsFrame (text : List ℕ) (m : SyslogMsg) : Type 0 where

@@ -2,8 +2,9 @@
 // a sheet.
 //
 // The definitions are in specs/: `Rfc` the grammar of the two RFCs, `Line` our lines and streams, `Lent` a line in a lent list,
-// `Reading` what a list of bytes reads as. The theorems are in proofs/Theorems.antt. The types are those with which `syslog_write` and
-// `syslog_read` answer.
+// `Reading` what a list of bytes reads as, `Rows` what `read-events` prints, `Numbers` the answers' numbers, `Guess` how the reader
+// finds an event, `Claims` what the theorems say, `Examples` lines byte for byte. The theorems are in proofs/Theorems.antt. The types
+// are those with which `syslog_write` and `syslog_read` answer.
 ghost use mathlib.Core.Path.{_≡_};
 ghost use Rattle.syslog.specs.Numbers.{writtenNo, lineReadNo, frameReadNo};
 use numbers::Paper;
@@ -73,7 +74,7 @@ impl LineRead {
 
 // What begins at a place of a stream.
 pub enum FrameRead {
-    // the frame of this event; the next begins there
+    // the frame of this event, and the place behind it
     Frame(LineEvent, usize),
     // nothing: the stream ends there
     End,

@@ -65,9 +65,11 @@ fn print_line(text: &[u8]) {
 // A row for the frame at a place, or for the end of the stream; and the place behind a frame, or one past the stream's end where
 // nothing more is read.
 fn print_frame(text: &[u8], at: usize) -> usize {
-    match read_frame(text, at) {
+    let told = read_frame(text, at);
+    match told {
         FrameRead::Frame(event, behind) => {
-            io::write_all(STDOUT_FILENO, b"frame,0");
+            io::write_all(STDOUT_FILENO, b"frame");
+            print_next(told.number() as usize);
             print_event(event);
             print_next(behind);
             print_end();
@@ -80,7 +82,8 @@ fn print_frame(text: &[u8], at: usize) -> usize {
             MOST_BYTES
         }
         FrameRead::NotOurs => {
-            io::write_all(STDOUT_FILENO, b"frame,15");
+            io::write_all(STDOUT_FILENO, b"frame");
+            print_next(told.number() as usize);
             print_none();
             print_next(at);
             print_end();

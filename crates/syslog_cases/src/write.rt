@@ -92,11 +92,7 @@ fn print_with_room(form: Form, event: LineEvent, room: usize) {
     }
     let written = write_as(form, event, &mut list[0..room]);
     print_next(written.number() as usize);
-    if is_blank(&list) {
-        print_next(0);
-    } else {
-        print_next(1);
-    }
+    print_altered(!is_blank(&list));
 }
 
 // The number for a list of just so many bytes.
@@ -107,6 +103,26 @@ fn print_exact(form: Form, event: LineEvent, room: usize) {
     }
     let written = write_as(form, event, &mut list[0..room]);
     print_next(written.number() as usize);
+}
+
+// Whether a list is altered from a place on.
+fn is_altered(list: &[u8], from: usize) -> bool {
+    let mut i = from;
+    while i < list.len() {
+        if list[i] != 0 {
+            return true;
+        }
+        i += 1;
+    }
+    false
+}
+
+fn print_altered(altered: bool) {
+    if altered {
+        print_next(1);
+    } else {
+        print_next(0);
+    }
 }
 
 fn print_text(list: &[u8], length: usize) {
@@ -131,6 +147,7 @@ fn print_written(form: Form, event: LineEvent) {
     let length = length_told(written);
     print_next(written.number() as usize);
     print_next(length);
+    print_altered(is_altered(&list, length));
     print_exact(form, event, length);
     print_with_room(form, event, less_one(length));
     print_text(&list, length);

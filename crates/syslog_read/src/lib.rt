@@ -18,7 +18,7 @@ use syslog_write::fits_line;
 use syslog_write::put_frame;
 use syslog_write::put_line;
 
-// No number of a line has more digits, nor has its count of bytes.
+// How many digits a guess looks at. No number of a line that fits, and no count, has more than two.
 const MOST_DIGITS: usize = 4;
 
 // Room for every line and every frame of an event that fits.

@@ -1,9 +1,9 @@
 // `vectors`: runs numbered pairs of sheets and prints what they are told. The pairs are the files NNNN-site.csv and
 // NNNN-steps.csv of the folder that it is run in, from 0000 on; the last pair is the first of which neither file is there. For
 // each it prints a line `case NNNN`, a line `site,number,place,second` with what the site sheet is told, the texts of `panel` and
-// `where`, and the stream of `events`, if there is one, with CRLF behind it. Behind each text of a steps sheet of at most 1,024 bytes stands what a list gives that is one byte too short for
-// it (13, and no byte of the list is altered) and one that is just long enough (0, and the text). tests/make-vectors makes the
-// sheets, and from the papers' reference what is expected.
+// `where`, and the stream of `events`, if there is one, with CRLF behind it. Behind each text of a steps sheet of at most 1,024 bytes
+// stands what a list gives that is one byte too short for it (13, and no byte of the list is altered) and one that is just long enough
+// (0, and the text). tests/make-vectors makes the sheets, and from the papers' reference what is expected.
 use blank_lists::blank_panel_text;
 use blank_lists::blank_sheet;
 use findings::Printed;

@@ -1,8 +1,6 @@
 -- `is_line` meets its contract: the event's own text is written and compared. Assumes nothing.
-use Prim.Native.Nat.{_≤_}
-use mathlib.Core.Path.{_≡_, sym}
+use mathlib.Core.Path.{sym}
 use native.Mathlib.Omega.{arith}
-use lib.ListN.{length}
 use lib.Seq.{length-take-le}
 use Rattle.syslog.proofs.Fit.{fits-tells}
 use Rattle.syslog.proofs.Lengths.{line-short}

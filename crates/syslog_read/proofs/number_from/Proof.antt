@@ -3,7 +3,6 @@ use Prim.Native.Nat.{_-_}
 use mathlib.Core.Path.{sym, _∙_}
 use native.Mathlib.Omega.{arith}
 use borrow.Author.Tests.{not-true, not-false}
-use lib.ListN.{length}
 use Rattle.syslog.proofs.Loops.{Numbering, number-start, digit-within, number-bounded, number-more, number-ends, number-stops, number-full}
 use borrow.Author.Needs.{needs}
 use Rattle.syslog_read.proofs.number_from.Statement.{statement}

@@ -1,5 +1,4 @@
 -- `is_reason` meets its contract: one test, then the other. Assumes nothing.
-use mathlib.Core.Path.{refl}
 use borrow.Author.Tests.{lt-leb, le-leb}
 use Rattle.tables.specs.Tables.{andAlso}
 use Rattle.syslog_write.proofs.is_reason.Statement.{statement}

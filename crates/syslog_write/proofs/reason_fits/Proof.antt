@@ -1,5 +1,4 @@
 -- `reason_fits` meets its contract, by what the event is. Assumes nothing.
-use mathlib.Core.Path.{sym, ap, _∙_}
 use Rattle.syslog.specs.Line.{reasonFits}
 use borrow.Author.Needs.{needs}
 use Rattle.syslog_write.proofs.reason_fits.Statement.{statement}
