@@ -1,13 +1,15 @@
-"""The panel once more, in plain Python and from paper 01 alone: what the tests expect is made here.
+"""The panel once more, in plain Python and from papers 01 and 02 alone: what the tests expect is made here.
 
 It imports nothing of the project and shares no text with it. `read_site` and `verdict` are the section "Site sheet" with
 "Numbers given back", `Panel` the sections "The record" and "Steps", `panel_text` and `where_text` the section "Program and one
-whole run". `events_of` has the grants, denials, passages and lapses of a run, for which C-11 of 02 wants lines.
+whole run". `events_of` has the grants, denials, passages and lapses of a run, for which C-11 of 02 wants lines. `held` is what C-12
+of 02 adds to an answer: with reason 3 the door that is granted to the person, else 0.
 """
 
 LONGEST_SHEET = 49152
 MOST_PEOPLE, MOST_LOCATIONS, MOST_DOORS = 64, 32, 64
 GREEN_TICKS, RED_TICKS = 300, 20
+ELSEWHERE = 3     # the reason of a denial for a grant elsewhere: the only one that is told with a door
 
 FREE, READ, GRANTED, GREEN, WALKED, EXPIRED, DENIED, RED, DIMMED, CLOSED = range(10)
 STEPS = ["card", "decide", "green", "red", "walk", "tick", "passed", "lapsed", "dark", "ack"]
@@ -169,7 +171,8 @@ def verdict(sheet):
 
 class Panel:
     """The record of an accepted site, fresh at first, its steps and questions, and the events of the steps that were done: for
-    each the word that 02 has for it, the door, the person whose card was taken there, and the reason of a denial, else 0."""
+    each the word that 02 has for it, the door, the person whose card was taken there, and the reason of a denial, else 0, with the
+    door that it is told with."""
 
     def __init__(self, site):
         self.site = site
@@ -189,50 +192,52 @@ class Panel:
                 return door
         return None
 
-    def reason(self, door, person):
-        """The first reason to deny that applies, 0 for none."""
+    def judged(self, door, person):
+        """The first reason to deny that applies, 0 for none; and the door that it is told with."""
         origin, destination = self.site.doors[door]
         if self.place[person] != origin:
-            return 1
+            return 1, 0
         if not self.site.may_be(person, destination):
-            return 2
-        return 0 if self.granted_to(person) is None else 3
+            return 2, 0
+        granted = self.granted_to(person)
+        return (0, 0) if granted is None else (ELSEWHERE, granted)
 
     def step(self, name, door, person=0):
-        """The number, the door's phase afterwards and the reason."""
+        """The number, the door's phase afterwards, the reason and the door that it is told with."""
         if door >= len(self.site.doors) or name == "card" and person >= self.site.people:
-            return 11, 0, 0
-        phase, held, left, reason = self.phase[door], self.holds[door], self.countdown[door], 0
+            return 11, 0, 0, 0
+        phase, holder, left = self.phase[door], self.holds[door], self.countdown[door]
+        reason = held = 0
         if name == "tick":
             if phase in (GREEN, RED):
                 over = EXPIRED if phase == GREEN else DIMMED
-                self.put(door, phase if left > 1 else over, held, left - 1)
+                self.put(door, phase if left > 1 else over, holder, left - 1)
         elif name == "card" and phase == FREE:
             self.put(door, READ, person)
         elif name == "decide" and phase == READ:
-            reason = self.reason(door, held)
-            self.put(door, DENIED if reason else GRANTED, 0 if reason else held)
-            self.events.append(("DENY" if reason else "GRANT", door, held, reason))
+            reason, held = self.judged(door, holder)
+            self.put(door, DENIED if reason else GRANTED, 0 if reason else holder)
+            self.events.append(("DENY" if reason else "GRANT", door, holder, reason, held))
         elif name == "green" and phase in (GRANTED, GREEN):
-            self.put(door, GREEN, held, GREEN_TICKS)
+            self.put(door, GREEN, holder, GREEN_TICKS)
         elif name == "red" and phase in (DENIED, RED):
             self.put(door, RED, 0, RED_TICKS)
         elif name == "walk" and phase == GREEN:
-            self.put(door, WALKED, held)
+            self.put(door, WALKED, holder)
         elif name == "passed" and phase == WALKED:
-            self.place[held] = self.site.doors[door][1]
+            self.place[holder] = self.site.doors[door][1]
             self.put(door, CLOSED)
-            self.events.append(("PASS", door, held, 0))
+            self.events.append(("PASS", door, holder, 0, 0))
         elif name == "lapsed" and phase == EXPIRED:
             self.put(door, CLOSED)
-            self.events.append(("LAPSE", door, held, 0))
+            self.events.append(("LAPSE", door, holder, 0, 0))
         elif name == "dark" and phase == DIMMED:
             self.put(door, CLOSED)
         elif name == "ack" and phase == CLOSED:
             self.put(door, FREE)
         else:
-            return 12, phase, 0
-        return 0, self.phase[door], reason
+            return 12, phase, 0, 0
+        return 0, self.phase[door], reason, held
 
 
 def step_of(fields):
@@ -248,18 +253,18 @@ def serve(site, steps):
     """The rows that `panel` prints behind its header for an accepted site, and the record after the run."""
     panel = Panel(site)
     if len(steps) > LONGEST_SHEET:
-        return [(0, 1, 0, 0)], panel
+        return [(0, 1, 0, 0, 0)], panel
     printed, row = [], -1
     for row, fields in enumerate(rows(steps)):
         if row == 0:
             if fields != [b"step", b"door", b"person"]:
-                return [(0, 2, 0, 0)], panel
+                return [(0, 2, 0, 0, 0)], panel
             continue
         step = step_of(fields)
         if step is None:
-            return printed + [(row, 2, 0, 0)], panel
+            return printed + [(row, 2, 0, 0, 0)], panel
         printed.append((row, *panel.step(*step)))
-    return (printed if row >= 0 else [(0, 2, 0, 0)]), panel
+    return (printed if row >= 0 else [(0, 2, 0, 0, 0)]), panel
 
 
 def events_of(site_sheet, steps_sheet):
@@ -276,11 +281,11 @@ def text(header, lines):
 
 def panel_text(site_sheet, steps_sheet):
     """What `panel` prints for the two sheets."""
-    header = "row,answer,phase,reason"
+    header = "row,answer,phase,reason,held"
     try:
         return text(header, serve(read_site(site_sheet), steps_sheet)[0])
     except Refused as refused:
-        return text(header, [(0, refused.number, 0, 0)])
+        return text(header, [(0, refused.number, 0, 0, 0)])
 
 
 def where_text(site_sheet, steps_sheet):

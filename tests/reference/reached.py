@@ -1,10 +1,11 @@
 """What the cases of `vectors` have to reach, said from papers 01 and 02 alone, and what a case reaches by the reference.
 
-What is reached is a sentence: what a site sheet is told and where, how a steps sheet ends, what a step is answered, or which event
-there is at which door and of whom. `wanted` has all such that the papers allow, so a case that reaches anything else is a fault too.
+What is reached is a sentence: what a site sheet is told and where, how a steps sheet ends, what a step is answered, which door is told
+with reason 3, or which event there is at which door and of whom. `wanted` has all such that the papers allow, so a case that reaches
+anything else is a fault too.
 """
-from panel import (CLOSED, DENIED, DIMMED, EXPIRED, FREE, GRANTED, GREEN, LONGEST_SHEET, READ, RED, STEPS, WALKED, Panel, Refused,
-                   read_site, rows, step_of)
+from panel import (CLOSED, DENIED, DIMMED, ELSEWHERE, EXPIRED, FREE, GRANTED, GREEN, LONGEST_SHEET, READ, RED, STEPS, WALKED, Panel,
+                   Refused, read_site, rows, step_of)
 
 # A sheet may be as long as the first, and not as long as the second.
 LIMITS = (LONGEST_SHEET, LONGEST_SHEET + 1)
@@ -41,12 +42,26 @@ def in_phase(phase):
     return f"in phase {phase}"
 
 
-def answered(name, where, answer, after, reason):
-    return f"`{name}` {where} answered {answer},{after},{reason}"
+def answered(name, where, answer, after, reason, held=0):
+    door = "the held door" if reason == ELSEWHERE else held
+    return f"`{name}` {where} answered {answer},{after},{reason},{door}"
 
 
 def denied_for(phase):
     return f"a denial by reason 3 for a grant in phase {phase}"
+
+
+def denied_with(held, door):
+    number = f"of {len(str(held))} digits" if held else "0"
+    place = "in front of" if held < door else "behind" if held > door else "that is"
+    return f"a denial by reason 3 with a door {number} {place} the card's own"
+
+
+def denied_beside(other, held):
+    return f"a denial by reason 3 while another person has a door {'in front of' if other < held else 'behind'} the held one"
+
+
+DENIED_LATER = "a denial by reason 3 of a person whose first grant was at another door"
 
 
 def put_out(phase):
@@ -70,6 +85,9 @@ def wanted_of_steps():
     yield from (steps_told(what) for what in ("over the limit", "of a wrong header", "with a row of bad form", "run to its end"))
     yield from (sized("steps", length) for length in LIMITS)
     yield from (denied_for(phase) for phase in (GRANTED, GREEN, WALKED, EXPIRED))
+    yield from (denied_with(held, door) for held, door in ((0, 1), (1, 2), (2, 1), (10, 11), (11, 10)))
+    yield from (denied_beside(other, 1) for other in (0, 2))
+    yield DENIED_LATER
     yield from (put_out(phase) for phase in (GREEN, RED))
     words = ("GRANT", "DENY", "PASS", "LAPSE")
     yield from (happened(word, what, number) for word in words for what in ("door", "person") for number in (9, 10))
@@ -90,21 +108,31 @@ def wanted():
 
 # ---- What a case reaches
 
+def reached_by_denial(panel, door, person, held):
+    """What a denial by reason 3 reaches, which is told with the door `held`."""
+    yield denied_for(panel.phase[held])
+    yield denied_with(held, door)
+    yield from (denied_beside(panel.granted_to(other), held) for other in range(panel.site.people)
+                if other != person and panel.granted_to(other) is not None)
+    if held != next(at for word, at, whose, *_ in panel.events if (word, whose) == ("GRANT", person)):
+        yield DENIED_LATER
+
+
 def reached_by_step(panel, again, name, door, person):
     """What a step reaches; `again` has the doors whose light was set again while it burned."""
     if door >= len(panel.phase):
         yield answered(name, "at no door", *panel.step(name, door, person))
         return
-    before, held, events = panel.phase[door], panel.holds[door], len(panel.events)
-    answer, after, reason = panel.step(name, door, person)
-    yield answered(name, in_phase(before), answer, after, reason)
-    if reason == 3:
-        yield denied_for(panel.phase[panel.granted_to(held)])
+    before, holder, events = panel.phase[door], panel.holds[door], len(panel.events)
+    answer, after, reason, held = panel.step(name, door, person)
+    yield answered(name, in_phase(before), answer, after, reason, held)
+    if reason == ELSEWHERE:
+        yield from reached_by_denial(panel, door, holder, held)
     if answer == 0 and name in ("green", "red"):
         (again.add if before == after else again.discard)(door)
     if (before, after) in ((GREEN, EXPIRED), (RED, DIMMED)) and door in again:
         yield put_out(before)
-    for word, at, whose, _ in panel.events[events:]:
+    for word, at, whose, *_ in panel.events[events:]:
         yield happened(word, "door", at)
         yield happened(word, "person", whose)
 

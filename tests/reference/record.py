@@ -1,4 +1,4 @@
-"""The record as it lies in its fields, in plain Python and from paper 01 alone: the section "The record" with the test of
+"""The record as it lies in its fields, in plain Python and from papers 01 and 02 alone: the section "The record" with the test of
 soundness, and the steps and questions of any record, sound or not. For a sound one they are those of `panel.py`.
 """
 from panel import (EXPIRED, FREE, GRANTED, GREEN, GREEN_TICKS, MOST_DOORS, MOST_LOCATIONS, MOST_PEOPLE, READ, RED, RED_TICKS, Panel,
@@ -90,9 +90,9 @@ class Record:
         return panel
 
     def step(self, name, door, person):
-        """The number, the phase and the reason; the record is the next one afterwards."""
+        """The number, the phase, the reason and its door; the record is the next one afterwards."""
         if not self.is_sound():
-            return UNSOUND, 0, 0
+            return UNSOUND, 0, 0, 0
         panel = self.panel()
         told = panel.step(name, door, person)
         self.place[:self.people] = panel.place

@@ -1,18 +1,20 @@
-"""Decisions as syslog lines, in plain Python and from C-11 of paper 02, RFC 5424 and RFC 6587 alone.
+"""Decisions as syslog lines, in plain Python and from C-11 and C-12 of paper 02, RFC 5424 and RFC 6587 alone.
 
-An event is a word, a door, a person and a reason. Writing puts its line together as 02 says it. Reading doesn't ask the writer: it
-takes a message apart by the grammar of RFC 5424, section 6, and then asks for what 02 says of each part. `NotOurs` tells why bytes
-are no such line; the number is 15 for all of them.
+An event is a word, a door, a person, a reason and a held door. Writing puts its line together as 02 says it. Reading doesn't ask the
+writer: it takes a message apart by the grammar of RFC 5424, section 6, and then asks for what 02 says of each part. `NotOurs` tells why
+bytes are no such line; the number is 15 for all of them.
 """
+import itertools
 import re
 
-from panel import Refused, events_of, text
+from panel import ELSEWHERE, Refused, events_of, text
 
 DONE, TOO_LONG, NO_SUCH, TOO_SHORT, NOT_A_LINE = 0, 1, 11, 13, 15
 MSGIDS = ["GRANT", "DENY", "PASS", "LAPSE"]
 FACILITY, NOTICE, INFORMATIONAL = 10, 5, 6
 HIGHEST = 63                 # the last door and the last person
-DENIAL_REASONS = (1, 2, 3)
+DENIAL_REASONS = (1, 2, ELSEWHERE)
+NO_EVENT = ("", 0, 0, 0, 0)  # what is told with a refusal
 LONGEST_STREAM = 524288
 MOST_DIGITS = 9              # a number of more digits is no door, no person, no reason and no count of ours
 
@@ -33,16 +35,26 @@ def reason_fits(msgid, reason):
     return reason in DENIAL_REASONS if msgid == "DENY" else reason == 0
 
 
-def fits(msgid, door, person, reason):
-    return door <= HIGHEST and person <= HIGHEST and reason_fits(msgid, reason)
+def held_fits(reason, held):
+    return held <= HIGHEST if reason == ELSEWHERE else held == 0
+
+
+def fits(msgid, door, person, reason, held):
+    return door <= HIGHEST and person <= HIGHEST and reason_fits(msgid, reason) and held_fits(reason, held)
+
+
+def fitting(numbers):
+    """The events that fit, whose doors and persons are of these numbers; 0 is among them."""
+    return [event for event in itertools.product(MSGIDS, numbers, numbers, (0, *DENIAL_REASONS), numbers) if fits(*event)]
 
 
 # ---- Writing
 
-def line(msgid, door, person, reason):
+def line(msgid, door, person, reason, held):
     """The line of an event that fits."""
-    last = f" reason={reason}" if msgid == "DENY" else ""
-    return f"<{8 * FACILITY + severity_of(msgid)}>1 - - - - {msgid} - door={door} person={person}{last}".encode()
+    why = f" reason={reason}" if msgid == "DENY" else ""
+    last = f" held={held}" if reason == ELSEWHERE else ""
+    return f"<{8 * FACILITY + severity_of(msgid)}>1 - - - - {msgid} - door={door} person={person}{why}{last}".encode()
 
 
 def frame(*event):
@@ -98,6 +110,21 @@ def values(msg, names):
     return [decimal(digits) for _, _, digits in fields]
 
 
+def read_event(msgid, msg):
+    """The event of a MSGID that is ours and of the message behind it."""
+    is_denial, is_held = msgid == "DENY", b" held=" in msg
+    numbers = values(msg, ["door", "person"] + ["reason"] * is_denial + ["held"] * is_held)
+    is_elsewhere = is_denial and numbers[2] == ELSEWHERE
+    if is_held and not is_elsewhere:
+        raise NotOurs("a held door is told without reason 3")
+    if is_elsewhere and not is_held:
+        raise NotOurs("reason 3 is told without a held door")
+    event = (msgid, *numbers, 0, 0)[:5]  # what isn't told is 0
+    if not fits(*event):
+        raise NotOurs("the event doesn't fit")
+    return event
+
+
 def read_message(message):
     """The parts of a message by RFC 5424."""
     found = MESSAGE.fullmatch(message)
@@ -124,12 +151,7 @@ def read_line(message):
         raise NotOurs("the facility isn't 10")
     if severity != severity_of(msgid):
         raise NotOurs("the severity doesn't fit the event")
-    names = ["door", "person"] + ["reason"] * (msgid == "DENY")
-    door, person, *reason = values(parts["msg"] or b"", names)
-    event = msgid, door, person, *(reason or [0])
-    if not fits(*event):
-        raise NotOurs("the event doesn't fit")
-    return event
+    return read_event(msgid, parts["msg"] or b"")
 
 
 def read_frame(stream, at):
@@ -163,12 +185,12 @@ def events_text(site_sheet, steps_sheet):
 
 def read_events_text(stream):
     """What `read_events` prints for a stream."""
-    header, lines = "answer,event,door,person,reason", []
+    header, lines = "answer,event,door,person,reason,held", []
     if len(stream) > LONGEST_STREAM:
-        return text(header, [(TOO_LONG, "", 0, 0, 0)])
+        return text(header, [(TOO_LONG, *NO_EVENT)])
     try:
         for event, _ in read_stream(stream):
             lines.append((DONE, *event))
     except NotOurs:
-        lines.append((NOT_A_LINE, "", 0, 0, 0))
+        lines.append((NOT_A_LINE, *NO_EVENT))
     return text(header, lines)
