@@ -6,7 +6,7 @@
 #include <stdlib.h>
 #include <string.h>
 
-enum { LONGEST_SHEET = 49152, MOST_TEXT = 81920 };
+enum { LONGEST_SHEET = 49152, MOST_TEXT = 98304 };
 enum { MOST_PEOPLE = 64, MOST_LOCATIONS = 32, MOST_DOORS = 64 };
 enum { GREEN_TICKS = 300, RED_TICKS = 20 };
 enum { DONE = 0, TOO_LONG = 1, BAD_FORM = 2, OUT_OF_RANGE = 3, TWICE = 4, NO_SITE_ROW = 5, NO_EXIT = 6, NO_WAY_OUT = 7,
@@ -264,17 +264,24 @@ struct door {
 
 struct panel {
     uint8_t place[MOST_PEOPLE];
-    bool granted[MOST_PEOPLE];
+    uint8_t granted[MOST_PEOPLE]; /* the door that is granted to a person, counted from 1; 0: none */
     struct door door[MOST_DOORS];
 };
 
-static int reason_to_deny(const struct site *s, const struct panel *p, int door, int person)
+/* Why a card is denied, 0 if it isn't; and with reason 3 the door that is granted to the person, else 0. */
+struct denial {
+    int reason, held;
+};
+
+static const struct denial NONE = {0, 0};
+
+static struct denial denial_of(const struct site *s, const struct panel *p, int door, int person)
 {
     if (p->place[person] != s->origin[door])
-        return 1;
+        return (struct denial){1, 0};
     if (!may_be(s, person, s->destination[door]))
-        return 2;
-    return p->granted[person] ? 3 : 0;
+        return (struct denial){2, 0};
+    return p->granted[person] ? (struct denial){3, p->granted[person] - 1} : NONE;
 }
 
 static void put(struct door *d, int phase, int person, int countdown)
@@ -290,17 +297,17 @@ static void tick(struct door *d)
         d->phase = d->phase == GREEN ? EXPIRED : DIMMED;
 }
 
-static int decide(const struct site *s, struct panel *p, int door)
+static struct denial decide(const struct site *s, struct panel *p, int door)
 {
     struct door *d = &p->door[door];
-    int reason = reason_to_deny(s, p, door, d->person);
-    if (reason) {
+    struct denial denial = denial_of(s, p, door, d->person);
+    if (denial.reason) {
         put(d, DENIED, 0, 0);
     } else {
-        p->granted[d->person] = true;
+        p->granted[d->person] = door + 1;
         d->phase = GRANTED;
     }
-    return reason;
+    return denial;
 }
 
 /* Whether a door in this phase takes the step. */
@@ -320,8 +327,8 @@ static bool is_allowed(enum step step, int phase)
     }
 }
 
-/* Does a step that is allowed, and tells the reason of a denial. */
-static int act(const struct site *s, struct panel *p, enum step step, int door, int person)
+/* Does a step that is allowed, and tells a denial. */
+static struct denial act(const struct site *s, struct panel *p, enum step step, int door, int person)
 {
     struct door *d = &p->door[door];
     switch (step) {
@@ -332,11 +339,11 @@ static int act(const struct site *s, struct panel *p, enum step step, int door, 
     case WALK: put(d, WALKED, d->person, 0); break;
     case TICK: tick(d); break;
     case PASSED: p->place[d->person] = s->destination[door]; /* fall through */
-    case LAPSED: p->granted[d->person] = false; /* fall through */
+    case LAPSED: p->granted[d->person] = 0; /* fall through */
     case DARK: put(d, CLOSED, 0, 0); break;
     default: put(d, FREE, 0, 0); break;
     }
-    return 0;
+    return NONE;
 }
 
 /* ---- the text */
@@ -357,12 +364,13 @@ static void put_number(struct text *t, unsigned n, char mark)
     *t->at++ = mark;
 }
 
-static void put_row(struct text *t, int row, int answer, int phase, int reason)
+static void put_row(struct text *t, int row, int answer, int phase, struct denial denial)
 {
     put_number(t, row, ',');
     put_number(t, answer, ',');
     put_number(t, phase, ',');
-    put_number(t, reason, '\r');
+    put_number(t, denial.reason, ',');
+    put_number(t, denial.held, '\r');
     *t->at++ = '\n';
 }
 
@@ -390,12 +398,12 @@ static bool run_row(const struct site *s, struct panel *p, const struct row *row
     if (step == NO_STEP || door < 0 || person < 0)
         return false;
     if (door >= s->doors || (step == CARD && person >= s->people)) {
-        put_row(t, n, NO_SUCH, 0, 0);
+        put_row(t, n, NO_SUCH, 0, NONE);
     } else if (!is_allowed(step, p->door[door].phase)) {
-        put_row(t, n, NOT_ALLOWED, p->door[door].phase, 0);
+        put_row(t, n, NOT_ALLOWED, p->door[door].phase, NONE);
     } else {
-        int reason = act(s, p, step, door, person);
-        put_row(t, n, DONE, p->door[door].phase, reason);
+        struct denial denial = act(s, p, step, door, person);
+        put_row(t, n, DONE, p->door[door].phase, denial);
     }
     return true;
 }
@@ -405,12 +413,12 @@ static void run_steps(const struct site *s, const char *sheet, size_t length, st
     struct reader r = {sheet, sheet + length};
     struct row row;
     if (length > LONGEST_SHEET) {
-        put_row(t, 0, TOO_LONG, 0, 0);
+        put_row(t, 0, TOO_LONG, 0, NONE);
         return;
     }
     if (cut_row(&r, &row) != CUT || row.count != 3 || !IS_WORD(row.field[0], "step") || !IS_WORD(row.field[1], "door") ||
         !IS_WORD(row.field[2], "person")) {
-        put_row(t, 0, BAD_FORM, 0, 0);
+        put_row(t, 0, BAD_FORM, 0, NONE);
         return;
     }
     struct panel p = {0};
@@ -419,7 +427,7 @@ static void run_steps(const struct site *s, const char *sheet, size_t length, st
         if (cut == SHEET_ENDS)
             return;
         if (cut == BROKEN || !run_row(s, &p, &row, n, t)) {
-            put_row(t, n, BAD_FORM, 0, 0);
+            put_row(t, n, BAD_FORM, 0, NONE);
             return;
         }
     }
@@ -427,14 +435,14 @@ static void run_steps(const struct site *s, const char *sheet, size_t length, st
 
 static size_t panel_text(const char *site, size_t site_length, const char *steps, size_t steps_length, char *out)
 {
-    static const char header[] = "row,answer,phase,reason\r\n";
+    static const char header[] = "row,answer,phase,reason,held\r\n";
     struct text t = {out};
     struct site s;
     memcpy(t.at, header, sizeof header - 1);
     t.at += sizeof header - 1;
     int number = read_site(site, site_length, &s);
     if (number != DONE)
-        put_row(&t, 0, number, 0, 0);
+        put_row(&t, 0, number, 0, NONE);
     else
         run_steps(&s, steps, steps_length, &t);
     return t.at - out;
