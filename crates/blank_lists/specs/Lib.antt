@@ -3,7 +3,7 @@ use Prim.Native.Nat.{ℕ}
 
 -- Room for every text that `panel` prints, and for every one that `where` prints.
 abbrev pub mostPanelText : ℕ
-mostPanelText = 81920
+mostPanelText = 93184
 
 abbrev pub mostWhereText : ℕ
 mostWhereText = 512

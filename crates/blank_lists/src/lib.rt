@@ -21,7 +21,7 @@ pub fn blank_sheet() -> [u8; ROOM]
 
 // Room for every text that `panel` prints, and for every one that `where` prints: `panel-fits` and `where-fits` of
 // crates/demands/specs/DemandOne.antt say so.
-pub const MOST_PANEL_TEXT: usize = 81920;
+pub const MOST_PANEL_TEXT: usize = 93184;
 
 pub const MOST_WHERE_TEXT: usize = 512;
 

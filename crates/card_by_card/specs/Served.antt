@@ -18,8 +18,9 @@ use Rattle.record.specs.Sound.{Sound}
 use Rattle.phases.specs.Kinds.{StepRow, numberOfKind, namesPerson}
 use Rattle.record.specs.Run.{Reply, replyBy, rowOf, lastOf}
 use Rattle.run_events.specs.Lines.{Line, heardOf}
-use Rattle.run_events.specs.Events.{What, Denial, Passage, Lapse, RunEvent, noSpells, spellsIn}
+use Rattle.run_events.specs.Events.{What, Denial, Passage, Lapse, RunEvent, noSpells, spellsIn, eventsIn}
 use Rattle.run_events.specs.Told.{Standing, Free, CardOf, GrantOf, Ended, standing, standingAt, TellsTruly}
+use Rattle.run_events.specs.Open.{NamesOpenGrants}
 use Rattle.card_by_card.specs.Serving.{recordedIn, servedAs, stepAt, cardOf, serviceOf, services}
 
 -- A fresh record: "with everyone in 0 and every door free", of tables that are lawful and 0 beyond the counts, so that it is sound.
@@ -34,11 +35,11 @@ pub data Acts : Record → List StepRow → Type 0 where
   then : {r : Record} {row : StepRow} {rows : List StepRow} → rowOf r row .answer ≡ Done → Acts (rowOf r row .next) rows → Acts r (row ∷ rows)
 
 -- what the `decide` of a service answers, by what the event is served as: "`decide`: 1 to 2 or 6", "and the reason (0 unless `decide`
--- denied)"
-pub data Reads (phase reason : ℕ) : What → Type 0 where
-  denying : phase ≡ denied → Reads phase reason (Denial reason)
-  passing : phase ≡ granted → reason ≡ 0 → Reads phase reason Passage
-  lapsing : phase ≡ granted → reason ≡ 0 → Reads phase reason Lapse
+-- denied)", with its door (02, C-12)
+pub data Reads (phase reason held : ℕ) : What → Type 0 where
+  denying : phase ≡ denied → Reads phase reason held (Denial reason held)
+  passing : phase ≡ granted → reason ≡ 0 → held ≡ 0 → Reads phase reason held Passage
+  lapsing : phase ≡ granted → reason ≡ 0 → held ≡ 0 → Reads phase reason held Lapse
 
 -- the answer of the `decide` in the service of an event, the service begun at record r
 abbrev pub decideOf : Record → RunEvent → Step
@@ -47,7 +48,7 @@ decideOf r e = rowOf (rowOf r (cardOf e) .next) (stepAt Decide (e .at))
 -- events served one after the other are decided as they were, but for reason 3, which is granted
 pub data Decides : Record → List RunEvent → Type 0 where
   end : {r : Record} → Decides r []
-  then : {r : Record} {e : RunEvent} {es : List RunEvent} → Reads (decideOf r e .phase) (decideOf r e .reason) (servedAs (e .what))
+  then : {r : Record} {e : RunEvent} {es : List RunEvent} → Reads (decideOf r e .phase) (decideOf r e .reason) (decideOf r e .held) (servedAs (e .what))
       → Decides (lastOf r (serviceOf e)) es → Decides r (e ∷ es)
 
 -- the record after all services
@@ -102,12 +103,12 @@ unfoldable pub decisionsAt : ℕ → Record → List RunEvent → List Reply
 decisionsAt d r [] = []
 decisionsAt d r (e ∷ es) = cond (eqb d (e .at)) (replyBy (decideOf r e) ∷ []) [] ++ decisionsAt d (lastOf r (serviceOf e)) es
 
--- granted, and denied for a reason
+-- granted, and denied for a reason, with its door
 abbrev pub grantedReply : Reply
-grantedReply = record { answer = doneNo; phase = granted; reason = 0 }
+grantedReply = record { answer = doneNo; phase = granted; reason = 0; held = 0 }
 
-abbrev pub deniedReply : ℕ → Reply
-deniedReply why = record { answer = doneNo; phase = denied; reason = why }
+abbrev pub deniedReply : ℕ → ℕ → Reply
+deniedReply why held = record { answer = doneNo; phase = denied; reason = why; held = held }
 
 -- "a grant not ended, isn't served": the decision of a grant that is open, if one is
 unfoldable pub grantOpen : Standing → List Reply
@@ -120,13 +121,13 @@ grantOpen Ended = []
 pub data Alike : List Reply → List Reply → Type 0 where
   end : Alike [] []
   same : {x : Reply} {xs ys : List Reply} → (x .reason ≡ reasonBusy → ⊥) → Alike xs ys → Alike (x ∷ xs) (x ∷ ys)
-  unused : {xs ys : List Reply} → Alike xs ys → Alike (deniedReply reasonBusy ∷ xs) (grantedReply ∷ ys)
+  unused : {held : ℕ} {xs ys : List Reply} → Alike xs ys → Alike (deniedReply reasonBusy held ∷ xs) (grantedReply ∷ ys)
 
 -- Demand 3, of a fresh record and a list of steps, of any kinds and numbers, acting or refused
 pub record DemandThree (fresh : Record) (rows : List StepRow) : Type 0 where
   -- all services run one after the other from the fresh record: every step acts
   pub acts : Acts fresh (services (recordedIn fresh rows))
-  -- each service's `decide` gives the decision and the reason of its event, but for reason 3, which is granted
+  -- each service's `decide` gives the decision, the reason and the held door of its event, but for reason 3, which is granted
   pub decides : Decides fresh (recordedIn fresh rows)
   -- at the end every door is free
   pub all-free : (d : ℕ) → doorOf (servedIn fresh rows) d ≡ freeDoor
@@ -134,6 +135,9 @@ pub record DemandThree (fresh : Record) (rows : List StepRow) : Type 0 where
   pub places : servedIn fresh rows .place ≡ lastOf fresh rows .place
   -- each event served is one that the record had, and a passage or a lapse is of a card that was granted
   pub told : TellsTruly noSpells 1 fresh rows
+  -- by the answers alone, the door named by a reason 3 is one whose own card of the same person was granted before and has neither passed
+  -- nor lapsed since
+  pub held-open : NamesOpenGrants (eventsIn fresh rows)
   -- what stands open at a door by the answers, the card or the grant and its person, is what the record has open there
   pub open-at-end : (d : ℕ) → standing (spellsIn fresh rows d) ≡ standingAt (doorOf (lastOf fresh rows) d)
   -- "A card not decided, or a grant not ended, isn't served": of the cards taken at a door, in order, all are served but the one open

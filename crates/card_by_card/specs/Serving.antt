@@ -17,7 +17,7 @@ use Rattle.run_events.specs.Events.{What, Grant, Denial, Passage, Lapse, RunEve
 -- does an event end its card? "A refusal is recorded by the `decide` that denied, a passage by `passed`, a lapse by `lapsed`."
 unfoldable pub endsCard : What → Bool
 endsCard Grant = false
-endsCard (Denial why) = true
+endsCard (Denial why held) = true
 endsCard Passage = true
 endsCard Lapse = true
 
@@ -36,7 +36,7 @@ recordedIn fresh rows = recorded (eventsIn fresh rows)
 -- one after the other, as a lapse, "an unused grant"
 unfoldable pub servedAs : What → What
 servedAs Grant = Grant
-servedAs (Denial why) = cond (eqb why reasonBusy) Lapse (Denial why)
+servedAs (Denial why held) = cond (eqb why reasonBusy) Lapse (Denial why held)
 servedAs Passage = Passage
 servedAs Lapse = Lapse
 
@@ -51,7 +51,7 @@ ticked (suc n) d rest = stepAt Tick d ∷ ticked n d rest
 
 unfoldable pub afterDecide : What → ℕ → List StepRow
 -- "then if denied `red`, 20 ticks, `dark`, `ack`"
-afterDecide (Denial why) d = stepAt Red d ∷ ticked redSpan d (stepAt Dark d ∷ stepAt Ack d ∷ [])
+afterDecide (Denial why held) d = stepAt Red d ∷ ticked redSpan d (stepAt Dark d ∷ stepAt Ack d ∷ [])
 -- "for a passage `green`, `walk`, `passed`, `ack`"
 afterDecide Passage d = stepAt Green d ∷ stepAt Walk d ∷ stepAt Passed d ∷ stepAt Ack d ∷ []
 -- "for a lapse or an unused grant `green`, 300 ticks, `lapsed`, `ack`"

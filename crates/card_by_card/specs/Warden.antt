@@ -15,7 +15,7 @@ use Rattle.card_by_card.specs.Served.{Acts, Decides}
 
 unfoldable pub isPassage : What → Bool
 isPassage Grant = false
-isPassage (Denial why) = false
+isPassage (Denial why held) = false
 isPassage Passage = true
 isPassage Lapse = false
 
@@ -49,7 +49,7 @@ pub record PutByPassages (fresh : Record) (rows : List StepRow) : Type 0 where
 pub data Struck : List RunEvent → List RunEvent → Type 0 where
   no-more : Struck [] []
   keep : {e : RunEvent} {es left : List RunEvent} → Struck es left → Struck (e ∷ es) (e ∷ left)
-  strike : {e : RunEvent} {es left : List RunEvent} (why : ℕ) → e .what ≡ Denial why → Struck es left → Struck (e ∷ es) left
+  strike : {e : RunEvent} {es left : List RunEvent} (why held : ℕ) → e .what ≡ Denial why held → Struck es left → Struck (e ∷ es) left
 
 -- events served one after the other from the fresh record, by the panel's own steps: every step acts, each `decide` gives the decision
 -- and the reason of its event, but for reason 3, and everyone stands in these places
@@ -64,7 +64,8 @@ pub record RefusedMovesNobody (fresh : Record) (rows : List StepRow) : Type 0 wh
   pub in-the-run : (before after : List StepRow) (row : StepRow) → rows ≡ before ++ (row ∷ after) → (row .kind ≡ Decide) ⊎ (row .kind ≡ Card)
       → lastOf fresh (before ++ (row ∷ [])) .place ≡ lastOf fresh before .place
   -- the service of a refused card moves nobody;
-  pub in-the-serving : (before after : List RunEvent) (e : RunEvent) (why : ℕ) → recordedIn fresh rows ≡ before ++ (e ∷ after) → e .what ≡ Denial why
+  pub in-the-serving : (before after : List RunEvent) (e : RunEvent) (why held : ℕ) → recordedIn fresh rows ≡ before ++ (e ∷ after)
+      → e .what ≡ Denial why held
       → lastOf fresh (services (before ++ (e ∷ []))) .place ≡ lastOf fresh (services before) .place
   -- and the others served from fresh without it, or without several refused cards, act, are decided as they were and lead everyone to
   -- where they stand

@@ -20,9 +20,9 @@ use Rattle.phases.specs.Kinds.{allows, numberOfKind}
 use Rattle.record.specs.Sound.{Sound}
 use Rattle.door_does.specs.declared.Does.{Does}
 use Rattle.door_does.specs.Does.{effect}
-use Rattle.record.specs.Steps.{First, doing, reasonFor, stepOf}
+use Rattle.record.specs.Steps.{First, HeldDoor, the-grant, no-door, doing, reasonFor, stepOf}
 use Rattle.tables.proofs.Cases.{same-or-not, one-of, either}
-use Rattle.record.proofs.Laws.{Allowed, done-did, denied-first, becomes, door-after}
+use Rattle.record.proofs.Laws.{Allowed, done-did, denied-first, held-door, becomes, door-after}
 use Rattle.record.proofs.Fresh.{fresh-free, fresh-outside}
 use Rattle.machines.specs.Sets.{dom, _∪_}
 use Rattle.machines.specs.M3 as m3
@@ -182,9 +182,9 @@ module _ (site : Plan) (right : List Bool) where
 -- ---- what a decision tells
 
 pub first-failing : (r : Record) → Sound r → (d p : ℕ) → stepOf r Decide d p .answer ≡ Done
-    → FirstFailing (constantsOf r) (stateOf r) (getD (r .holder) d 0) d (stepOf r Decide d p .reason)
+    → FirstFailing (constantsOf r) (stateOf r) (getD (r .holder) d 0) d (stepOf r Decide d p .reason) (stepOf r Decide d p .held)
 unfolding allows keeps andAlso
-first-failing r s d p done = go (denied-first r d p done)
+first-failing r s d p done = go (denied-first r d p done) (held-door r s Decide d p)
   where
     w : Allowed r Decide d p
     w = done-did r Decide d p done .0
@@ -195,9 +195,11 @@ first-failing r s d p done = go (denied-first r d p done)
     inside : getD (r .destination) d 0 < r .locations
     inside = s .tables .in-range .destinations d (w .a-door)
 
-    go : {n : ℕ} → First r d (getD (r .holder) d 0) n → FirstFailing (constantsOf r) (stateOf r) (getD (r .holder) d 0) d n
-    go (First.none a) =
+    go : {n e : ℕ} → First r d (getD (r .holder) d 0) n → HeldDoor r (getD (r .holder) d 0) n e
+        → FirstFailing (constantsOf r) (stateOf r) (getD (r .holder) d 0) d n e
+    go (First.none a) (no-door _) =
         FirstFailing.none (record { situated = a .at-origin; authorized = (person, inside, a .has-right); uninvolved = λ g. a .no-grant (g .0) (g .1) })
-    go (First.away ne) = FirstFailing.situated ne
-    go (First.barred at no-right) = FirstFailing.authorized at (λ a. false≢true (sym no-right ∙ a .2))
-    go (First.busy at may e g) = FirstFailing.uninvolved at (person, inside, may) (e, g)
+    go (First.away ne) (no-door _) = FirstFailing.situated ne
+    go (First.barred at no-right) (no-door _) = FirstFailing.authorized at (λ a. false≢true (sym no-right ∙ a .2))
+    go (First.busy at may e g) (the-grant h only) = FirstFailing.uninvolved at (person, inside, may) h only
+    go (First.busy at may e g) (no-door other) = absurd (other refl)

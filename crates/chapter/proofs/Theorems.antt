@@ -88,7 +88,7 @@ idle-stands-for-none = idle-stands
 
 -- What `decide` tells is the first of accept's three guards that fails for the card's person, and 0 where none does.
 pub denial-first : (r : Record) → Sound r → (d p : ℕ) → stepOf r Decide d p .answer ≡ Done
-    → FirstFailing (constantsOf r) (stateOf r) (getD (r .holder) d 0) d (stepOf r Decide d p .reason)
+    → FirstFailing (constantsOf r) (stateOf r) (getD (r .holder) d 0) d (stepOf r Decide d p .reason) (stepOf r Decide d p .held)
 denial-first = first-failing
 
 -- ---- axioms, invariants, refinements

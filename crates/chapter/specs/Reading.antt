@@ -14,7 +14,6 @@ use Rattle.phases.specs.declared.table.Kind.the-variants.{Card, Decide, Green, 
 use Rattle.phases.specs.Phase.{free, read, granted, green, walked, expired, denied, red, dimmed, closed}
 use Rattle.record.specs.Doors.{planOf}
 use Rattle.granting.specs.Grants.{GrantAt}
-use Rattle.machines.specs.Sets.{dom}
 use Rattle.machines.specs.Context.{Constants}
 use Rattle.machines.specs.Machines.{State}
 use Rattle.machines.specs.M0 as m0
@@ -132,9 +131,9 @@ pub record Idle (r : Record) (k : Kind) (d : ℕ) : Type 0 where
 -- ---- why a card is refused
 
 -- The first of the three guards of accept that fails, by 01's number: "reason 1 (not at the origin), 2 (no right), 3 (grant
--- elsewhere), the first that applies"; 0 where none fails.
-pub data FirstFailing (c : Constants) (s : State m4.names) (p d : ℕ) : ℕ → Type 0 where
-  none : Acceptable c (s .sit) (s .map dap) p d → FirstFailing c s p d 0
-  situated : (s .sit p ≡ c .org d → ⊥) → FirstFailing c s p d 1
-  authorized : s .sit p ≡ c .org d → (c .aut p (c .dst d) → ⊥) → FirstFailing c s p d 2
-  uninvolved : s .sit p ≡ c .org d → c .aut p (c .dst d) → dom (s .map dap) p → FirstFailing c s p d 3
+-- elsewhere), the first that applies"; 0 where none fails. Behind it the door told with it (02, C-12): dap(p) with reason 3, else 0.
+pub data FirstFailing (c : Constants) (s : State m4.names) (p d : ℕ) : ℕ → ℕ → Type 0 where
+  none : Acceptable c (s .sit) (s .map dap) p d → FirstFailing c s p d 0 0
+  situated : (s .sit p ≡ c .org d → ⊥) → FirstFailing c s p d 1 0
+  authorized : s .sit p ≡ c .org d → (c .aut p (c .dst d) → ⊥) → FirstFailing c s p d 2 0
+  uninvolved : s .sit p ≡ c .org d → c .aut p (c .dst d) → {e : ℕ} → s .map dap p e → ((f : ℕ) → s .map dap p f → f ≡ e) → FirstFailing c s p d 3 e

@@ -59,8 +59,8 @@ module _ (site : Plan) (right : List Bool) (place phase holder count : List ℕ)
 
       pub judged-done : not a ≡ false → (q why : ℕ) → (k ≡ Card → q ≡ p) → (k ≡ Decide → why ≡ firstReason site right place phase holder d (now .holder))
           → (does : Does) → does ≡ effect k q why now → (to : ℕ) → to ≡ getD (site .destination) d 0
-          → deedOf does (now .phase) (now .holder) to ≡ judgedOf site right place phase holder count k d p
+          → deedOf does (now .phase) (now .holder) to (site .doors) phase holder ≡ judgedOf site right place phase holder count k d p
       unfolding judgedOf
       judged-done allowed q why person reason does effects to leads =
           rw (effects, leads, is, le-ltb mostPeople (site .people) room, ← exists, not-false e some, ← (rw is at says), not-false a allowed)
-          (ap (λ (x : Does). deedOf x (getD phase d 0) (getD holder d 0) (getD (site .destination) d 0)) (same-effect k q p why _ (doorIn phase holder count d) person (rw is at reason)))
+          (ap (λ (x : Does). deedOf x (getD phase d 0) (getD holder d 0) (getD (site .destination) d 0) (site .doors) phase holder) (same-effect k q p why _ (doorIn phase holder count d) person (rw is at reason)))

@@ -14,7 +14,7 @@ use Rattle.door_does.specs.declared.Does.{Does}
 use Rattle.door_does.specs.declared.Does.the-variants.{Stays, Turns, Moves}
 use Rattle.door.specs.Door.{doorIn}
 use Rattle.door_does.specs.Does.{effect}
-use Rattle.granting.specs.Reasons.{firstReason}
+use Rattle.granting.specs.Reasons.{firstReason, heldWith}
 use Rattle.deeds.specs.declared.Deed.{Deed}
 use Rattle.deeds.specs.declared.Deed.the-variants.{Tells, Puts, Leads}
 use Rattle.deeds.specs.declared.Told.{Told}
@@ -23,11 +23,12 @@ use Rattle.deeds.specs.declared.Told.{Told}
 unfoldable pub existAmong : ℕ → ℕ → Kind → ℕ → ℕ → Bool
 existAmong people doors k d p = andAlso (ltb d doors) (orElse (not (namesPerson k)) (ltb p people))
 
--- what is done where the step does so at a door that is in this phase, holds this person and leads to this location
-abbrev pub deedOf : Does → ℕ → ℕ → ℕ → Deed
-deedOf Stays phase held to = Tells Done phase
-deedOf (Turns c why) phase held to = Puts c why
-deedOf (Moves c) phase held to = Leads c held to
+-- what is done where the step does so at a door that is in phase `current`, holds person p and leads to this location, among n doors in
+-- these phases and with these persons
+abbrev pub deedOf : Does → ℕ → ℕ → ℕ → ℕ → List ℕ → List ℕ → Deed
+deedOf Stays current p to n phase holder = Tells Done current
+deedOf (Turns c why) current p to n phase holder = Puts c why (heldWith why n phase holder p)
+deedOf (Moves c) current p to n phase holder = Leads c p to
 
 -- what is done where the step may be done
 abbrev pub allowedOf : Plan → List Bool → List ℕ → List ℕ → List ℕ → List ℕ → Kind → ℕ → ℕ → Deed
@@ -36,6 +37,9 @@ allowedOf site right place phase holder count k d p =
     (getD phase d 0)
     (getD holder d 0)
     (getD (site .destination) d 0)
+    (site .doors)
+    phase
+    holder
 
 -- "Steps and questions: 14, then 11, then 12": the deed of a step; where there are more people than there is room for, 14
 unfoldable pub judgedOf : Plan → List Bool → List ℕ → List ℕ → List ℕ → List ℕ → Kind → ℕ → ℕ → Deed
@@ -48,29 +52,29 @@ judgedOf site right place phase holder count k d p =
     (Tells NotAllowed (getD phase d 0)))
     (Tells NoSuch 0))
 
--- "A step answers its number, the door's phase afterwards .. and the reason"
+-- "A step answers its number, the door's phase afterwards .. and the reason", and with it "the door that is granted to the person"
 abbrev pub toldOf : Deed → Told
-toldOf (Tells answer phase) = record { answer = answer; phase = phase; reason = 0 }
-toldOf (Puts c why) = record { answer = Done; phase = c .phase; reason = why }
-toldOf (Leads c p l) = record { answer = Done; phase = c .phase; reason = 0 }
+toldOf (Tells answer phase) = record { answer = answer; phase = phase; reason = 0; held = 0 }
+toldOf (Puts c why held) = record { answer = Done; phase = c .phase; reason = why; held = held }
+toldOf (Leads c p l) = record { answer = Done; phase = c .phase; reason = 0; held = 0 }
 
 -- the lists with the deed carried out at door d: the locations of the people, and of each door its phase, its person and its countdown
 abbrev pub placesAfter : Deed → List ℕ → List ℕ
 placesAfter (Tells answer phase) place = place
-placesAfter (Puts c why) place = place
+placesAfter (Puts c why held) place = place
 placesAfter (Leads c p l) place = set place p l
 
 abbrev pub phasesAfter : Deed → ℕ → List ℕ → List ℕ
 phasesAfter (Tells answer so) d phase = phase
-phasesAfter (Puts c why) d phase = set phase d (c .phase)
+phasesAfter (Puts c why held) d phase = set phase d (c .phase)
 phasesAfter (Leads c p l) d phase = set phase d (c .phase)
 
 abbrev pub holdersAfter : Deed → ℕ → List ℕ → List ℕ
 holdersAfter (Tells answer phase) d holder = holder
-holdersAfter (Puts c why) d holder = set holder d (c .holder)
+holdersAfter (Puts c why held) d holder = set holder d (c .holder)
 holdersAfter (Leads c p l) d holder = set holder d (c .holder)
 
 abbrev pub countsAfter : Deed → ℕ → List ℕ → List ℕ
 countsAfter (Tells answer phase) d count = count
-countsAfter (Puts c why) d count = set count d (c .count)
+countsAfter (Puts c why held) d count = set count d (c .count)
 countsAfter (Leads c p l) d count = set count d (c .count)

@@ -12,6 +12,7 @@ use door::Door;
 use door_does::Does;
 use door_does::step::does;
 use granting::first_reason;
+use granting::held_with;
 use lists::byte_at;
 use lists::put_byte;
 use lists::put_word;
@@ -30,14 +31,15 @@ pub struct Told {
     pub answer: Answer,
     pub phase: u8,
     pub reason: u8,
+    pub held: usize,
 }
 
 // What is done at a door.
 pub enum Deed {
     // nothing; this answer and this phase are told
     Tells(Answer, u8),
-    // the door becomes so, and this reason is told
-    Puts(Door, u8),
+    // the door becomes so, and this reason is told, with this door
+    Puts(Door, u8, usize),
     // the door becomes so, and this person is in this location
     Leads(Door, usize, u8),
 }
@@ -84,14 +86,25 @@ fn person_named(kind: Kind, person: usize) -> u16
     person as u16
 }
 
-// The deed that a step does at a door that is in this phase, holds this person and leads to this location.
-fn deed_of(does: Does, phase: u8, held: usize, to: u8) -> Deed
-    ensures { λ r. ⌜ r ≡ deedOf does phase held to ⌝ }
+// The deed that a step does at a door that is in this phase, holds this person and leads to this location, among so many
+// doors in these phases and with these persons.
+fn deed_of<'a>(
+    does: Does,
+    current: u8,
+    person: usize,
+    to: u8,
+    doors: usize,
+    phase: &'a [u8],
+    holder: &'a [u16],
+) -> Deed
+    ensures { λ r. ⌜ r ≡ deedOf does current person to doors (now (phase .entry)) (now (holder .entry)) ⌝ }
 {
     match does {
-        Does::Stays => Deed::Tells(Answer::Done, phase),
-        Does::Turns(so, reason) => Deed::Puts(so, reason),
-        Does::Moves(so) => Deed::Leads(so, held, to),
+        Does::Stays => Deed::Tells(Answer::Done, current),
+        Does::Turns(so, reason) => {
+            Deed::Puts(so, reason, held_with(reason, doors, phase, holder, person))
+        }
+        Does::Moves(so) => Deed::Leads(so, person, to),
     }
 }
 
@@ -137,7 +150,7 @@ pub fn judge<'a>(
     if !kind.allowed_in(now.phase) {
         return Deed::Tells(Answer::NotAllowed, now.phase);
     }
-    let held = now.holder as usize;
+    let shown = now.holder as usize;
     let why = reason_for(
         kind,
         doors,
@@ -148,10 +161,18 @@ pub fn judge<'a>(
         phase,
         holder,
         door,
-        held,
+        shown,
     );
     let done = does(now, kind, named, why);
-    deed_of(done, now.phase, held, byte_at(destination, door))
+    deed_of(
+        done,
+        now.phase,
+        shown,
+        byte_at(destination, door),
+        doors,
+        phase,
+        holder,
+    )
 }
 
 // The lists with this door so.
@@ -192,14 +213,16 @@ pub fn carry_out<'a>(
                 answer,
                 phase: so,
                 reason: Reason::NONE,
+                held: 0,
             }
         }
-        Deed::Puts(so, reason) => {
+        Deed::Puts(so, reason, held) => {
             put_door(door, so, phase, holder, count);
             Told {
                 answer: Answer::Done,
                 phase: so.phase,
                 reason,
+                held,
             }
         }
         Deed::Leads(so, person, to) => {
@@ -209,6 +232,7 @@ pub fn carry_out<'a>(
                 answer: Answer::Done,
                 phase: so.phase,
                 reason: Reason::NONE,
+                held: 0,
             }
         }
     }

@@ -22,14 +22,16 @@ use Rattle.phases.specs.declared.table.Kind.the-variants.{Card, Decide, Green, 
 use Rattle.phases.specs.declared.answer.Answer.the-variants.{Done}
 use Rattle.record.specs.declared.steps.Step.{Step}
 use Rattle.asked_way.specs.declared.WayAnswer.the-variants.{Length}
-use Rattle.phases.specs.Phase.{free, read, granted, green, walked, expired, denied, red, dimmed, closed, greenSpan, redSpan}
+use Rattle.phases.specs.Phase.{free, read, granted, green, walked, expired, denied, red, dimmed, closed, greenSpan, redSpan, grants}
 use Rattle.record.specs.Doors.{planOf, doorOf, Shaped}
 use Rattle.phases.specs.Kinds.{StepRow, allows, namesPerson}
+use Rattle.phases.specs.Answers.{reasonBusy}
+use Rattle.granting.specs.Grants.{GrantAt}
 use Rattle.record.specs.Sound.{Sound}
 use Rattle.door_does.specs.declared.Does.{Does}
 use Rattle.door_does.specs.Does.{burns, effect}
 use Rattle.deeds.specs.Deeds.{existAmong}
-use Rattle.record.specs.Steps.{reasonFor, Admitted, act, doing, stepOf, exist}
+use Rattle.record.specs.Steps.{reasonFor, Admitted, HeldDoor, the-grant, no-door, act, doing, stepOf, exist}
 use Rattle.record.specs.Run.{lastOf}
 use Rattle.record.specs.Lights.{NoGreenNoWalk, NoRed}
 use Rattle.record.specs.Questions.{wayAnswerOf, wayWritten}
@@ -37,7 +39,7 @@ use Rattle.tables.proofs.Cases.{either}
 use Rattle.record.proofs.Ask.{place-is-location, way-out-safe}
 use Rattle.record.proofs.Right.{admitted}
 use Rattle.record.proofs.Tells.{sound-tells}
-use Rattle.record.proofs.Laws.{done-did, barred-12, act-done, becomes, door-after, sound-stays, shaped-stays, plan-stays, rights-stay, run-sound, run-shaped, run-plan, run-rights, denied-first, granted-exactly, green-burns, green-expires, red-burns, red-dims}
+use Rattle.record.proofs.Laws.{done-did, barred-12, act-done, becomes, door-after, sound-stays, shaped-stays, plan-stays, rights-stay, run-sound, run-shaped, run-plan, run-rights, denied-first, held-door, granted-exactly, green-burns, green-expires, red-burns, red-dims}
 use Rattle.verdict.specs.declared.Verdict.the-variants.{Accepted}
 use Rattle.grammar.specs.Sizes.{limit}
 use Rattle.site_lines.specs.Draft.{planIn}
@@ -47,7 +49,7 @@ use Rattle.chapter.proofs.Theorems.{fresh-reads, starts-each, step-acts, step-f
 use Rattle.machines.specs.M4 as m4
 use Rattle.chapter.specs.Reading.{constantsOf, stateOf}
 use Rattle.chapter.specs.Panel.{StartOfEach}
-use Rattle.demands.specs.DemandTwo.{WayAsked, WayOutside, StepIsEvent, Light, Decided, SameTables, NothingToAlter, no-light, green-whole, red-whole, CountsDown}
+use Rattle.demands.specs.DemandTwo.{WayAsked, WayOutside, StepIsEvent, Light, Decided, HeldIsTheGrant, SameTables, NothingToAlter, no-light, green-whole, red-whole, CountsDown}
 use Rattle.record_answers.proofs.Record.{of-record}
 use Rattle.card_by_card.proofs.Serial.{step-done, put-as-is}
 
@@ -195,6 +197,27 @@ decided r sh s d p e =
       reason = denied-first r d p e;
       guard = denial-first r s d p e;
     }
+
+-- the door told with reason 3
+pub held-grant : (r : Record) → Sound r → (d p : ℕ) → stepOf r Decide d p .answer ≡ Done → HeldIsTheGrant r d (stepOf r Decide d p)
+unfolding allows grants andAlso
+held-grant r s d p done =
+    let told = held-door r s Decide d p in
+    record {
+      the-door = the-one told;
+      by-dap = the-one told;
+      elsewhere = λ is here. clash (the-one told is d .0 (sym here) .holds) (rw (eqb-true (getD (r .phase) d 0) read (done-did r Decide d p done .0 .allowed)));
+      else-none = none told;
+    }
+  where
+    the-one : {why held : ℕ} → HeldDoor r (getD (r .holder) d 0) why held → why ≡ reasonBusy
+        → (e : ℕ) → (e ≡ held) ↔ GrantAt (r .doors) (r .phase) (r .holder) (getD (r .holder) d 0) e
+    the-one (the-grant g only) is e = ((λ same. subst (GrantAt (r .doors) (r .phase) (r .holder) (getD (r .holder) d 0)) (sym same) g), only e)
+    the-one (no-door other) is e = absurd (other is)
+
+    none : {why held : ℕ} → HeldDoor r (getD (r .holder) d 0) why held → (why ≡ reasonBusy → ⊥) → held ≡ 0
+    none (the-grant g only) other = absurd (other refl)
+    none (no-door _) other = refl
 
 -- ---- what steps alter
 

@@ -50,7 +50,7 @@ use Rattle.record_answers.proofs.Unique.{sound-unique, record-unique}
 use Rattle.demands.proofs.DemandOne.{of-site}
 use Rattle.demands.proofs.StepsSheet.{of-steps}
 use Rattle.demands.proofs.Texts.{of-run}
-use Rattle.demands.proofs.DemandTwo.{way-of, after-steps, asks-after, is-event, decided, starts, tables-stay, run-tables-stay, alters, green-ordered, red-ordered, green-counts, red-counts}
+use Rattle.demands.proofs.DemandTwo.{way-of, after-steps, asks-after, is-event, decided, held-grant, starts, tables-stay, run-tables-stay, alters, green-ordered, red-ordered, green-counts, red-counts}
 use Rattle.demands.proofs.Bytes.{printed-as-served}
 use Rattle.card_by_card.proofs.DemandThree as three
 use Rattle.card_by_card.proofs.Warden as warden
@@ -93,6 +93,7 @@ demand-2 =
       way-asked = asks-after;
       step = is-event;
       decision = decided;
+      held-is-the-grant = λ r sh. held-grant r;
       axioms = constants-obey;
       chapter = the-chapter;
       invariants = invariants-hold;

@@ -23,13 +23,13 @@ use Rattle.record.specs.Sound.{Sound}
 use Rattle.record.specs.SoundTest.{soundB}
 use Rattle.door_does.specs.declared.Does.{Does}
 use Rattle.door_does.specs.declared.Does.the-variants.{Stays, Turns, Moves}
-use Rattle.record.specs.Steps.{act, exist, soundStep, stepOf}
+use Rattle.record.specs.Steps.{HeldDoor, the-grant, no-door, act, doing, exist, soundStep, stepOf}
 use Rattle.record.specs.Run.{rowOf, repliesOf}
 use Rattle.tables.proofs.Cases.{either}
-use Rattle.record.proofs.Laws.{sound-stays, shaped-stays}
+use Rattle.record.proofs.Laws.{step-cases, act-done, act-held-door, sound-stays, shaped-stays}
 use Rattle.table_answers.specs.Answers.{IsReason, none, away, barred, busy, DoesTells}
 use Rattle.table_answers.proofs.Doors.{effect-told}
-use Rattle.text.specs.Text.{rowOfNumbers}
+use Rattle.text.specs.Text.{decimal, rowOfNumbers}
 use Rattle.run_text.specs.Printed.{panelRow, answerRows, placeRows}
 use Rattle.text.proofs.Decimal.{one-digit, two-digits, four-digits}
 use Rattle.text.proofs.Rows.{last-length, more-length}
@@ -90,30 +90,49 @@ number-most NotAllowed = omega arith
 number-most TooShort = omega arith
 number-most Unsound = omega arith
 
+-- the door told with a reason has two digits at most
+held-few : {r : Record} {p why e : ℕ} → Sound r → HeldDoor r p why e → e < 100
+held-few s (the-grant g only) = let h = g .exists in let most = s .tables .in-range .doors-to in omega arith
+held-few s (no-door other) = omega arith
+
+-- a refusal's number may have two digits, and then no door is told; so the two have three
+pub told-digits : (r : Record) → Sound r → (k : Kind) (d p : ℕ) → length (decimal (answerNo (stepOf r k d p .answer))) + length (decimal (stepOf r k d p .held)) ≤ 3
+told-digits r s k d p =
+    step-cases (λ x. length (decimal (answerNo (x .answer))) + length (decimal (x .held)) ≤ 3) r k d p
+    (λ a ph _.
+    let most = number-most a in
+    let x = two-digits (answerNo a) (omega arith) in
+    let y = one-digit 0 (omega arith) in
+    omega arith)
+    (λ _.
+    let x : length (decimal (answerNo (act r d (doing r k d p) .answer))) ≤ 1 = rw (act-done r d (doing r k d p)) (one-digit 0 (omega arith)) in
+    let y = two-digits (act r d (doing r k d p) .held) (held-few s (act-held-door r k d p s)) in
+    omega arith)
+
 -- ---- the rows of a run
 
-pub row-short : (n a p r : ℕ) → n < 10000 → a ≤ 14 → p ≤ 9 → r ≤ 3 → length (panelRow n a p r) ≤ 13
-row-short n a p r hn ha hp hr =
-    let x = more-length n a (p ∷ r ∷ []) in
-    let y = more-length a p (r ∷ []) in
-    let z = more-length p r [] in
-    let w = last-length r in
+pub row-short : (n a p r x : ℕ) → n < 10000 → p ≤ 9 → r ≤ 3 → length (decimal a) + length (decimal x) ≤ 3 → length (panelRow n a p r x) ≤ 15
+row-short n a p r x hn hp hr hd =
+    let l = more-length n a (p ∷ r ∷ x ∷ []) in
+    let m = more-length a p (r ∷ x ∷ []) in
+    let o = more-length p r (x ∷ []) in
+    let q = more-length r x [] in
+    let w = last-length x in
     let dn = four-digits n hn in
-    let da = two-digits a (omega arith) in
     let dp = one-digit p (omega arith) in
     let dr = one-digit r (omega arith) in
     omega arith
 
 pub rows-short : (r : Record) → Shaped r → Sound r → (rows : List StepRow) (n : ℕ) → n + length rows ≤ 10000
-    → length (answerRows n (repliesOf r rows)) ≤ 13 * length rows
+    → length (answerRows n (repliesOf r rows)) ≤ 15 * length rows
 unfolding repliesOf answerRows
 rows-short r sh s [] n h = omega arith
 rows-short r sh s (first ∷ rows) n h =
     let step = rowOf r first in
     let told = told-short r s (first .kind) (first .at) (first .person) in
-    let one = row-short n (answerNo (step .answer)) (step .phase) (step .reason) (omega arith) (number-most (step .answer)) (told .phase-short) (told .reason-short) in
+    let one = row-short n (answerNo (step .answer)) (step .phase) (step .reason) (step .held) (omega arith) (told .phase-short) (told .reason-short) (told-digits r s (first .kind) (first .at) (first .person)) in
     let rest = rows-short (step .next) (shaped-stays r (first .kind) (first .at) (first .person) sh) (sound-stays r (first .kind) (first .at) (first .person) sh s) rows (n + 1) (omega arith) in
-    let l = length-append (panelRow n (answerNo (step .answer)) (step .phase) (step .reason)) (answerRows (n + 1) (repliesOf (step .next) rows)) in
+    let l = length-append (panelRow n (answerNo (step .answer)) (step .phase) (step .reason) (step .held)) (answerRows (n + 1) (repliesOf (step .next) rows)) in
     omega arith
 
 -- ---- the rows of the people

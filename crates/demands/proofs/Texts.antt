@@ -29,6 +29,7 @@ use Rattle.run_text.specs.Printed.{panelHeader, whereHeader, panelRow, answerRo
 use Rattle.blank_lists.specs.{mostPanelText, mostWhereText}
 use Rattle.stream_text.specs.Stream.{eventsText}
 use Rattle.stream_text.proofs.Theorems.{events-text-fits}
+use Rattle.text.proofs.Decimal.{one-digit, two-digits}
 use Rattle.run_text.proofs.Serving.{replies-length}
 use Rattle.run_text.proofs.Sheets.{zero-accepted}
 use Rattle.sheet_answers.proofs.Texts.{text-tells, blank-long, in-blank}
@@ -41,13 +42,15 @@ use Rattle.demands.proofs.Fits.{row-short, rows-short, places-short}
 alone-fits : (n : ℕ) → n ≤ 10 → length (aloneText n) ≤ mostPanelText
 unfolding aloneText
 alone-fits n h =
-    let l = length-append panelHeader (panelRow 0 n 0 0) in
-    let w = row-short 0 n 0 0 (omega arith) (omega arith) (omega arith) (omega arith) in
+    let l = length-append panelHeader (panelRow 0 n 0 0 0) in
+    let a = two-digits n (omega arith) in
+    let z = one-digit 0 (omega arith) in
+    let w = row-short 0 n 0 0 0 (omega arith) (omega arith) (omega arith) (omega arith) in
     omega arith
 
-last-fits : (whole : Bool) (n : ℕ) → n < 10000 → length (lastRow whole n) ≤ 13
+last-fits : (whole : Bool) (n : ℕ) → n < 10000 → length (lastRow whole n) ≤ 15
 last-fits true n h = omega arith
-last-fits false n h = row-short n 2 0 0 h (omega arith) (omega arith) (omega arith)
+last-fits false n h = let a = one-digit 2 (omega arith) in let z = one-digit 0 (omega arith) in row-short n 2 0 0 0 h (omega arith) (omega arith) (omega arith)
 
 ran-fits : (r : Record) → Shaped r → Sound r → (s : List ℕ) (from : ℕ) → length s ≤ limit → length (ranText r (stepsFrom s from)) ≤ mostPanelText
 unfolding runText

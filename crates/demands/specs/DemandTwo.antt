@@ -23,6 +23,8 @@ use Rattle.record.specs.Sound.{Sound}
 use Rattle.record.specs.Steps.{Admitted, First, stepOf}
 use Rattle.record.specs.Run.{lastOf}
 use Rattle.phases.specs.Kinds.{StepRow}
+use Rattle.phases.specs.Answers.{reasonBusy}
+use Rattle.granting.specs.Grants.{GrantAt}
 use Rattle.record.specs.Lights.{ticks, Each, NoGreenNoWalk, NoRed}
 use Rattle.record.specs.Questions.{wayAnswerOf, wayWritten}
 use Rattle.verdict.specs.declared.Verdict.the-variants.{Accepted}
@@ -32,6 +34,7 @@ use Rattle.site_lines.specs.Gives.{Obeys}
 use Rattle.site_sheet.specs.Accepted.{AcceptedRecord}
 use Rattle.machines.specs.Context.{Constants, Axioms}
 use Rattle.machines.specs.Machines.{Same}
+use Rattle.machines.specs.M3.{dap}
 use Rattle.machines.specs.M4.{Event}
 use Rattle.machines.specs.M4 as m4
 use Rattle.chapter.specs.Whole.{Chapter}
@@ -94,9 +97,19 @@ pub record Decided (r : Record) (d : ℕ) (s : Step) : Type 0 where
   pub denied-when : (s .phase ≡ denied) ↔ (Admitted r d (getD (r .holder) d 0) → ⊥)
   pub green-then : Admitted r d (getD (r .holder) d 0) → Light (s .next) d Green Red green
   pub red-then : (Admitted r d (getD (r .holder) d 0) → ⊥) → Light (s .next) d Red Green red
-  -- "the first that applies", in 01's words and by the chapter's guards; 0 where all three hold
+  -- "the first that applies", in 01's words and by the chapter's guards, with its door; 0 where all three hold
   pub reason : First r d (getD (r .holder) d 0) (s .reason)
-  pub guard : FirstFailing (constantsOf r) (stateOf r) (getD (r .holder) d 0) d (s .reason)
+  pub guard : FirstFailing (constantsOf r) (stateOf r) (getD (r .holder) d 0) d (s .reason) (s .held)
+
+-- "`decide` must tell the door that is granted to the person, together with the reason" (02, C-12): s is what `decide` answered
+pub record HeldIsTheGrant (r : Record) (d : ℕ) (s : Step) : Type 0 where
+  -- that door and no other is in phases 2 to 5 with the person whose card door d holds, ..
+  pub the-door : s .reason ≡ reasonBusy → (e : ℕ) → (e ≡ s .held) ↔ GrantAt (r .doors) (r .phase) (r .holder) (getD (r .holder) d 0) e
+  -- .. by the chapter, dap(p); and it isn't door d itself, which holds a card and no grant
+  pub by-dap : s .reason ≡ reasonBusy → (e : ℕ) → (e ≡ s .held) ↔ stateOf r .map dap (getD (r .holder) d 0) e
+  pub elsewhere : s .reason ≡ reasonBusy → s .held ≡ d → ⊥
+  -- "0 with any other reason"
+  pub else-none : (s .reason ≡ reasonBusy → ⊥) → s .held ≡ 0
 
 -- ---- what steps alter
 
@@ -140,6 +153,8 @@ pub record DemandTwo : Type 1 where
   pub step : (r : Record) → Shaped r → Sound r → (k : Kind) (d p : ℕ) → StepIsEvent r k d p
   -- "is green exactly when all three conditions hold, otherwise red with the first reason that applies."
   pub decision : (r : Record) → Shaped r → Sound r → (d p : ℕ) → stepOf r Decide d p .answer ≡ Done → Decided r d (stepOf r Decide d p)
+  -- "Demands 2 and 3 read the reason with its door": reason 3 is told with the door of the person's grant
+  pub held-is-the-grant : (r : Record) → Shaped r → Sound r → (d p : ℕ) → stepOf r Decide d p .answer ≡ Done → HeldIsTheGrant r d (stepOf r Decide d p)
   -- "to its fourth refinement": the tables are constants as its axioms want them; of any such constants each machine keeps its
   -- invariants and refines the one before; every invariant holds of what a sound record reads as; the record of an accepted sheet
   -- reads as the initial state of each machine; and any list of steps is a run of each, row by row the event that the row's step

@@ -1,10 +1,10 @@
-// Which door holds a grant of a person, and why a person is denied a door.
+// Which door holds a grant of a person, why a person is denied a door, and which door is told with the reason.
 ghost use mathlib.Core.Path.{_≡_};
 ghost use mathlib.Core.List.{List};
 ghost use Prim.Native.Nat.{ℕ};
 ghost use Rattle.tables.specs.Tables.{plan};
 ghost use Rattle.granting.specs.Grants.{grantsTo, grantOf, hasGrant};
-ghost use Rattle.granting.specs.Reasons.{firstReason};
+ghost use Rattle.granting.specs.Reasons.{firstReason, heldWith};
 use door_fits::grants;
 use findings::Found;
 use lists::byte_at;
@@ -70,4 +70,23 @@ pub fn first_reason<'a>(
         return Reason::HAS_GRANT;
     }
     Reason::NONE
+}
+
+// The door that is told with a reason: where it is the person's grant, the first door that holds one, else 0.
+pub fn held_with<'a>(
+    reason: u8,
+    doors: usize,
+    phase: &'a [u8],
+    holder: &'a [u16],
+    person: usize,
+) -> usize
+    ensures { λ r. ⌜ r ≡ heldWith reason doors (now (phase .entry)) (now (holder .entry)) person ⌝ }
+{
+    if reason != Reason::HAS_GRANT {
+        return 0;
+    }
+    match grant_of(doors, phase, holder, person) {
+        Found::At(door) => door,
+        Found::Nothing => 0,
+    }
 }

@@ -16,5 +16,6 @@ pub fn lend(mut held: Record, kind: Kind, door: usize, person: usize) -> Step
         answer: told.answer,
         phase: told.phase,
         reason: told.reason,
+        held: told.held,
     }
 }

@@ -18,7 +18,7 @@ use Rattle.run_text.proofs.Examples.{site-of-01}
 use Rattle.paper_cases.specs.WholeRun.{runOf01}
 
 -- in row 6 a refusal at door 1 for reason 1, then in row 7 a passage at door 0
-pub recorded-of-01 : recorded (eventsOf noSpells 1 runOf01) ≡ event 6 1 0 (Denial 1) ∷ event 7 0 0 Passage ∷ []
+pub recorded-of-01 : recorded (eventsOf noSpells 1 runOf01) ≡ event 6 1 0 (Denial 1 0) ∷ event 7 0 0 Passage ∷ []
 unfolding recorded endsCard eventsOf eventBy meaningOf meaningBy spellsAfter spellBy
 recorded-of-01 = refl
 

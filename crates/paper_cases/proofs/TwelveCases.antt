@@ -20,7 +20,7 @@ use Rattle.phases.specs.Kinds.{StepRow, allows}
 use Rattle.granting.specs.Grants.{grantsTo, grantOf, hasGrant}
 use Rattle.record.specs.Sound.{Sound}
 use Rattle.door_does.specs.Does.{effect}
-use Rattle.granting.specs.Reasons.{firstReason}
+use Rattle.granting.specs.Reasons.{firstReason, heldWith}
 use Rattle.deeds.specs.Deeds.{existAmong}
 use Rattle.record.specs.Steps.{act, exist, soundStep}
 use Rattle.record.specs.SoundTest.{soundB}
@@ -43,7 +43,7 @@ use Rattle.site_sheet.specs.Site.{judgedDraft, settled, afterHeader, siteAt, si
 use Rattle.run_events.specs.Lines.{Line, linesOf, heardOf}
 use Rattle.card_by_card.specs.Serving.{stepAt, ticked}
 use Rattle.card_by_card.specs.Served.{Fresh}
-use Rattle.paper_cases.specs.Cases.{withoutExit, exitsInACircle, withoutDoor, withoutRightOf0, withoutRightOf1, freshSite, reasonAt, phaseAt, cardAt, goesThrough, greenFor, placeAfter, GivenBack, TwelveCases}
+use Rattle.paper_cases.specs.Cases.{withoutExit, exitsInACircle, withoutDoor, withoutRightOf0, withoutRightOf1, freshSite, ToldAt, phaseAt, cardAt, goesThrough, greenFor, placeAfter, GivenBack, TwelveCases}
 use Rattle.paper_cases.specs.WholeRun.{runOf01, rowsHeard}
 use Rattle.run_events.proofs.Steps.{heardLine}
 use Rattle.run_text.specs.Examples.{siteSheet}
@@ -73,11 +73,14 @@ fresh = accepted-fresh siteSheet (sheets .0)
 last-here : (rows : List StepRow) → lastOf freshSite rows ≡ soundLast site-of-01 rows
 last-here rows = sound-last rows freshSite (fresh .shaped) (fresh .sound) ∙ ap (λ (x : Record). soundLast x rows) (sheets .6)
 
-reason-here : (d : ℕ) (rows : List StepRow) → reasonAt d rows ≡ soundStep (soundLast site-of-01 rows) Decide d 0 .reason
-reason-here d rows =
-    ap (λ (x : Step). x .reason)
-    (sound-steps (lastOf freshSite rows) Decide d 0 (run-shaped freshSite rows (fresh .shaped)) (run-sound freshSite rows (fresh .shaped) (fresh .sound)))
-    ∙ ap (λ (x : Record). soundStep x Decide d 0 .reason) (last-here rows)
+told-here : (d : ℕ) (rows : List StepRow)
+    → ToldAt d rows (soundStep (soundLast site-of-01 rows) Decide d 0 .reason) (soundStep (soundLast site-of-01 rows) Decide d 0 .held)
+told-here d rows =
+    let e =
+    sound-steps (lastOf freshSite rows) Decide d 0 (run-shaped freshSite rows (fresh .shaped)) (run-sound freshSite rows (fresh .shaped) (fresh .sound))
+    ∙ ap (λ (x : Record). soundStep x Decide d 0) (last-here rows)
+    in
+    record { the-reason = ap (λ (x : Step). x .reason) e; the-door = ap (λ (x : Step). x .held) e }
 
 phase-here : (d : ℕ) (rows : List StepRow) → phaseAt d rows ≡ getD (soundLast site-of-01 rows .phase) d 0
 phase-here d rows = ap (λ (x : Record). getD (x .phase) d 0) (last-here rows)
@@ -85,16 +88,16 @@ phase-here d rows = ap (λ (x : Record). getD (x .phase) d 0) (last-here rows)
 place-here : (p : ℕ) (rows : List StepRow) → placeAfter p rows ≡ getD (soundLast site-of-01 rows .place) p 0
 place-here p rows = ap (λ (x : Record). getD (x .place) p 0) (last-here rows)
 
-steps : (reasonAt 1 (cardAt 0 0 ∷ stepAt Decide 0 ∷ stepAt Green 0 ∷ stepAt Walk 0 ∷ cardAt 1 0 ∷ []) ≡ 1)
-    × (reasonAt 1 (goesThrough 0 1 (cardAt 1 1 ∷ [])) ≡ 2)
-    × (reasonAt 3 (goesThrough 0 0 (cardAt 1 0 ∷ stepAt Decide 1 ∷ cardAt 3 0 ∷ [])) ≡ 3)
+steps : ToldAt 1 (cardAt 0 0 ∷ stepAt Decide 0 ∷ stepAt Green 0 ∷ stepAt Walk 0 ∷ cardAt 1 0 ∷ []) 1 0
+    × ToldAt 1 (goesThrough 0 1 (cardAt 1 1 ∷ [])) 2 0
+    × ToldAt 3 (goesThrough 0 0 (cardAt 1 0 ∷ stepAt Decide 1 ∷ cardAt 3 0 ∷ [])) 3 1
     × (phaseAt 0 (greenFor 299) ≡ 3)
     × (phaseAt 0 (greenFor 300) ≡ 5)
     × (phaseAt 1 (goesThrough 0 0 (cardAt 1 0 ∷ stepAt Decide 1 ∷ [])) ≡ granted)
     × (placeAfter 1 (goesThrough 0 1 []) ≡ 1)
     × (placeAfter 0 (goesThrough 0 0 []) ≡ 1)
-unfolding soundLast soundStep firstReason effect act existAmong allows hasGrant grantOf leastBelow orAt grantsTo grants mayBe andAlso orElse zeros ticked
-steps = (reason-here 1 _, reason-here 1 _, reason-here 3 _, phase-here 0 _, phase-here 0 _, phase-here 1 _, place-here 1 _, place-here 0 _)
+unfolding soundLast soundStep firstReason heldWith effect act existAmong allows hasGrant grantOf leastBelow orAt grantsTo grants mayBe andAlso orElse zeros ticked
+steps = (told-here 1 _, told-here 1 _, told-here 3 _, phase-here 0 _, phase-here 0 _, phase-here 1 _, place-here 1 _, place-here 0 _)
 
 -- ---- the whole run
 
@@ -114,11 +117,11 @@ sound-heard (row ∷ rows) r sh s =
     ∙ ap (λ (x : Step). heardLine row x ∷ soundHeard (x .next) rows) (sound-steps r (row .kind) (row .at) (row .person) sh s)
 
 pub whole-run : heardOf freshSite (rowsHeard runOf01) ≡ runOf01
-unfolding soundHeard rowsHeard soundStep firstReason effect act existAmong allows hasGrant grantOf leastBelow orAt grantsTo grants mayBe andAlso orElse zeros
+unfolding soundHeard rowsHeard soundStep firstReason heldWith effect act existAmong allows hasGrant grantOf leastBelow orAt grantsTo grants mayBe andAlso orElse zeros
 whole-run = sound-heard (rowsHeard runOf01) freshSite (fresh .shaped) (fresh .sound) ∙ ap (λ (x : Record). soundHeard x (rowsHeard runOf01)) (sheets .6)
 
 pub whole-run-places : (getD (lastOf freshSite (rowsHeard runOf01) .place) 0 0 ≡ 1) × (getD (lastOf freshSite (rowsHeard runOf01) .place) 1 0 ≡ 0)
-unfolding soundLast rowsHeard soundStep firstReason effect act existAmong allows hasGrant grantOf leastBelow orAt grantsTo grants mayBe andAlso orElse zeros
+unfolding soundLast rowsHeard soundStep firstReason heldWith effect act existAmong allows hasGrant grantOf leastBelow orAt grantsTo grants mayBe andAlso orElse zeros
 whole-run-places =
     (ap (λ (x : Record). getD (x .place) 0 0) (last-here (rowsHeard runOf01)), ap (λ (x : Record). getD (x .place) 1 0) (last-here (rowsHeard runOf01)))
 

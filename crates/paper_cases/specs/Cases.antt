@@ -40,9 +40,10 @@ withoutRightOf1 = top (fourDoors (twoExits (line rightWord 0 1 (line rightWord 0
 abbrev pub freshSite : Record
 freshSite = siteOf siteSheet .«record»
 
--- the reason that `decide` tells at a door after some steps
-abbrev pub reasonAt : ℕ → List StepRow → ℕ
-reasonAt d rows = rowOf (lastOf freshSite rows) (stepAt Decide d) .reason
+-- the reason that `decide` tells at a door after some steps, and the door that it tells with it
+pub record ToldAt (d : ℕ) (rows : List StepRow) (why held : ℕ) : Type 0 where
+  pub the-reason : rowOf (lastOf freshSite rows) (stepAt Decide d) .reason ≡ why
+  pub the-door : rowOf (lastOf freshSite rows) (stepAt Decide d) .held ≡ held
 
 -- the phase of a door after some steps
 abbrev pub phaseAt : ℕ → List StepRow → ℕ
@@ -84,15 +85,15 @@ pub record TwelveCases : Type 0 where
   pub case-5 : GivenBack withoutRightOf0 9 0 2
   -- "(6) without `right,1,1`: 10 at person 1"
   pub case-6 : GivenBack withoutRightOf1 10 1 0
-  -- "(7) row 6 above has reason 1"
-  pub case-7 : reasonAt 1 (cardAt 0 0 ∷ stepAt Decide 0 ∷ stepAt Green 0 ∷ stepAt Walk 0 ∷ cardAt 1 0 ∷ []) ≡ 1
+  -- "(7) row 6 above has reason 1"; with any reason but 3 the door is 0
+  pub case-7 : ToldAt 1 (cardAt 0 0 ∷ stepAt Decide 0 ∷ stepAt Green 0 ∷ stepAt Walk 0 ∷ cardAt 1 0 ∷ []) 1 0
   -- "(8) person 1 in location 1, at door 1: reason 2"
   pub case-8-place : placeAfter 1 (goesThrough 0 1 []) ≡ 1
-  pub case-8 : reasonAt 1 (goesThrough 0 1 (cardAt 1 1 ∷ [])) ≡ 2
-  -- "(9) person 0 in location 1, granted door 1, at door 3: reason 3"
+  pub case-8 : ToldAt 1 (goesThrough 0 1 (cardAt 1 1 ∷ [])) 2 0
+  -- "(9) person 0 in location 1, granted door 1, at door 3: reason 3"; it is told with door 1
   pub case-9-place : placeAfter 0 (goesThrough 0 0 []) ≡ 1
   pub case-9-grant : phaseAt 1 (goesThrough 0 0 (cardAt 1 0 ∷ stepAt Decide 1 ∷ [])) ≡ granted
-  pub case-9 : reasonAt 3 (goesThrough 0 0 (cardAt 1 0 ∷ stepAt Decide 1 ∷ cardAt 3 0 ∷ [])) ≡ 3
+  pub case-9 : ToldAt 3 (goesThrough 0 0 (cardAt 1 0 ∷ stepAt Decide 1 ∷ cardAt 3 0 ∷ [])) 3 1
   -- "(10) 299 ticks after `green`: still 3"
   pub case-10 : phaseAt 0 (greenFor 299) ≡ 3
   -- "(11) 300 ticks: 5"

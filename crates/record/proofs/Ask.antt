@@ -4,7 +4,7 @@
 --     way-out-safe          everybody's way out leads outside, through doors, by locations that they may be in
 -- Assumes nothing.
 use Prim.Native.Nat.{ℕ, _<_}
-use mathlib.Core.Path.{_≡_, refl, sym, _∙_}
+use mathlib.Core.Path.{_≡_, refl}
 use mathlib.Core.Bool.{Bool, true, false}
 use mathlib.Core.Logic.{⊎-elim}
 use native.Mathlib.Omega.{arith}
@@ -26,6 +26,7 @@ use Rattle.record.specs.Questions.{placeOf, grantedTo}
 use Rattle.tables.proofs.Cases.{below-or-not}
 use Rattle.granting.proofs.Granting.{grant-is, no-door}
 use Rattle.record.proofs.Tells.{sound-tells}
+use Rattle.record.proofs.Right.{one-grant}
 
 -- where a person may be is a location of the site
 pub may-be-location : (r : Record) → Sound r → (p l : ℕ) → mayBe (r .right) p l ≡ true → l < r .locations
@@ -51,9 +52,7 @@ place-told r sh s p h = rw (sound-tells r sh .back s, lt-ltb p (r .people) h)
 pub grant-told : (r : Record) → Shaped r → Sound r → (p d : ℕ) → p < r .people → GrantAt (r .doors) (r .phase) (r .holder) p d → grantedTo r p ≡ grant.Door d
 unfolding grantedTo
 grant-told r sh s p d h g =
-    let only : (e : ℕ) → GrantAt (r .doors) (r .phase) (r .holder) p e → (e ≡ d → ⊥) → ⊥ = λ e o ne.
-    s .doors d (g .exists) .alone (g .holds) e ne (record { exists = o .exists; holds = o .holds; person = o .person ∙ sym (g .person) }) in
-    rw (sound-tells r sh .back s, lt-ltb p (r .people) h, grant-is (r .doors) (r .phase) (r .holder) p d g only)
+    rw (sound-tells r sh .back s, lt-ltb p (r .people) h, grant-is (r .doors) (r .phase) (r .holder) p d g (λ e o ne. ne (one-grant r s p d e g o)))
 
 -- .. and none where no door holds one
 pub none-told : (r : Record) → Shaped r → Sound r → (p : ℕ) → p < r .people → ((d : ℕ) → GrantAt (r .doors) (r .phase) (r .holder) p d → ⊥) → grantedTo r p ≡ grant.Nothing

@@ -34,7 +34,7 @@ known r s d =
     (λ h. let is : getD (r .phase) d 0 ≡ 0 = ap (λ (x : Door). x .phase) (s .zero-doors d h) in omega arith) (below-or-not d (r .doors))
 
 -- what a step does to its door, as a deed, is what it does
-acted : (r : Record) (d : ℕ) (does : Does) → carried r d (deedOf does (getD (r .phase) d 0) (getD (r .holder) d 0) (getD (r .destination) d 0)) ≡ act r d does
+acted : (r : Record) (d : ℕ) (does : Does) → carried r d (deedOf does (getD (r .phase) d 0) (getD (r .holder) d 0) (getD (r .destination) d 0) (r .doors) (r .phase) (r .holder)) ≡ act r d does
 unfolding act
 acted r d Stays = refl
 acted r d (Turns c why) = refl
@@ -53,7 +53,7 @@ unfolding judgedOf lists.existAmong soundStep
 judged-step r k d p long s =
     let people : r .people ≤ mostPeople = let most = s .tables .in-range .people-to in omega arith in
     rw (le-ltb mostPeople (r .people) people, table-allows k (getD (r .phase) d 0) (known r s d))
-    (chosen r d (exist r k d p) (allows k (getD (r .phase) d 0)) (deedOf (doing r k d p) (getD (r .phase) d 0) (getD (r .holder) d 0) (getD (r .destination) d 0)) ∙ rw (acted r d (doing r k d p)))
+    (chosen r d (exist r k d p) (allows k (getD (r .phase) d 0)) (deedOf (doing r k d p) (getD (r .phase) d 0) (getD (r .holder) d 0) (getD (r .destination) d 0) (r .doors) (r .phase) (r .holder)) ∙ rw (acted r d (doing r k d p)))
 
 -- so the lists with a judged deed carried out, and what is told, are the step
 pub stepped : (r : Record) (k : Kind) (d p : ℕ) → length (r .place) ≡ mostPeople → Sound r

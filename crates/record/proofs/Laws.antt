@@ -8,6 +8,8 @@
 --     passed-moves                             .. except `passed`, which moves the held person and nobody else
 --     refused-stays, barred-stays              a refused step is no change
 --     denied-first                             the reason is the first that applies
+--     act-reason                               only a `decide` that denies tells a reason
+--     held-door                                the door told with it is that of the person's grant, and 0 with any other reason
 --     granted-exactly                          a card is granted exactly when all three conditions hold
 --     leaves, holds-on                         the held person leaves at `passed`, `lapsed` and a denial, and at no other step
 --     lapsed-frees                             after `lapsed` the person holds no grant
@@ -39,20 +41,22 @@ use Rattle.phases.specs.Phase.{free, granted, green, walked, expired, denied, r
 use Rattle.door.specs.Door.{door}
 use Rattle.record.specs.Doors.{planOf, doorOf, Shaped}
 use Rattle.granting.specs.Grants.{GrantAt}
+use Rattle.granting.specs.Reasons.{heldWith}
 use Rattle.record.specs.Sound.{Sound}
 use Rattle.record.specs.SoundTest.{soundB}
 use Rattle.phases.specs.Kinds.{StepRow, allows, namesPerson}
+use Rattle.phases.specs.Answers.{reasonBusy}
 use Rattle.door_does.specs.declared.Does.{Does}
 use Rattle.door_does.specs.declared.Does.the-variants.{Stays, Turns, Moves}
 use Rattle.door_does.specs.Does.{burns, effect}
 use Rattle.deeds.specs.Deeds.{existAmong}
-use Rattle.record.specs.Steps.{reasonFor, Admitted, First, act, refused, exist, doing, soundStep, stepOf}
+use Rattle.record.specs.Steps.{reasonFor, Admitted, First, heldFor, HeldDoor, no-door, act, refused, exist, doing, soundStep, stepOf}
 use Rattle.record.specs.Run.{rowOf, lastOf}
 use Rattle.record.specs.Lights.{isTick, ticks, Each, end, step, NoGreenNoWalk, NoRed}
 use Rattle.tables.proofs.Cases.{either, same-or-not, one-of}
 use Rattle.record.proofs.Keep.{put-same, put-other}
 use Rattle.record.proofs.Tells.{sound-tells}
-use Rattle.record.proofs.Right.{reason-first, admitted, admits, grants-keeps, right, act-sound, act-shaped}
+use Rattle.record.proofs.Right.{reason-first, held-first, admitted, admits, grants-keeps, right, act-sound, act-shaped}
 
 walked-keeps : (ph : ℕ) → ph ≡ walked → keeps ph ≡ true
 unfolding keeps andAlso
@@ -229,12 +233,73 @@ passed-moves r d p sh s e =
 -- ---- decisions
 
 -- "the first that applies": what `decide` tells is the first reason, and 0 where the person is admitted
-pub denied-first : (r : Record) (d p : ℕ) → stepOf r Decide d p .answer ≡ Done → First r d (getD (r .holder) d 0) (stepOf r Decide d p .reason)
+decided-first : (r : Record) (d p : ℕ) → First r d (getD (r .holder) d 0) (act r d (doing r Decide d p) .reason)
 unfolding act effect
-denied-first r d p e =
-    rw (done-did r Decide d p e .1)
-    (either (λ x. First r d (getD (r .holder) d 0) (act r d x .reason)) (eqb (reasonFor r d (getD (r .holder) d 0)) 0)
-    (λ z. rw (eqb-true (reasonFor r d (getD (r .holder) d 0)) 0 z) at (reason-first r d (getD (r .holder) d 0))) (λ _. reason-first r d (getD (r .holder) d 0)))
+decided-first r d p =
+    either (λ x. First r d (getD (r .holder) d 0) (act r d x .reason)) (eqb (reasonFor r d (getD (r .holder) d 0)) 0)
+    (λ z. rw (eqb-true (reasonFor r d (getD (r .holder) d 0)) 0 z) at (reason-first r d (getD (r .holder) d 0))) (λ _. reason-first r d (getD (r .holder) d 0))
+
+pub denied-first : (r : Record) (d p : ℕ) → stepOf r Decide d p .answer ≡ Done → First r d (getD (r .holder) d 0) (stepOf r Decide d p .reason)
+denied-first r d p e = rw (done-did r Decide d p e .1) (decided-first r d p)
+
+-- a step that is done tells a reason only where `decide` denies
+abbrev pub Reasoned : Record → Kind → ℕ → Does → Type 0
+Reasoned r k d x = (act r d x .reason ≡ 0 → ⊥) → (k ≡ Decide) × (act r d x .phase ≡ denied)
+
+pub act-reason : (r : Record) (k : Kind) (d p why : ℕ) (c : Door) → Reasoned r k d (effect k p why c)
+unfolding act effect
+act-reason r Card d p why c some = absurd (some refl)
+act-reason r Decide d p why c some =
+    either (Reasoned r Decide d) (eqb why 0) (λ _ some. absurd (some refl)) (λ _ _. (refl, refl)) some
+act-reason r Green d p why c some = absurd (some refl)
+act-reason r Red d p why c some = absurd (some refl)
+act-reason r Walk d p why c some = absurd (some refl)
+act-reason r Tick d p why c some =
+    either (Reasoned r Tick d) (eqb (c .phase) green)
+    (λ _. either (Reasoned r Tick d) (ltb 1 (c .count)) (λ _ some. absurd (some refl)) (λ _ some. absurd (some refl)))
+    (λ _.
+    either (Reasoned r Tick d) (eqb (c .phase) red)
+    (λ _. either (Reasoned r Tick d) (ltb 1 (c .count)) (λ _ some. absurd (some refl)) (λ _ some. absurd (some refl)))
+    (λ _ some. absurd (some refl)))
+    some
+act-reason r Passed d p why c some = absurd (some refl)
+act-reason r Lapsed d p why c some = absurd (some refl)
+act-reason r Dark d p why c some = absurd (some refl)
+act-reason r Ack d p why c some = absurd (some refl)
+act-reason r Unknown d p why c some = absurd (some refl)
+
+-- the door that a step tells is the one for the reason that it tells, ..
+pub act-held : (r : Record) (d : ℕ) (x : Does) → act r d x .held ≡ heldFor r (getD (r .holder) d 0) (act r d x .reason)
+unfolding act heldWith
+act-held r d Stays = refl
+act-held r d (Turns c why) = refl
+act-held r d (Moves c) = refl
+
+-- .. so 0 with any other reason than 3, ..
+pub act-unheld : (r : Record) (d : ℕ) (x : Does) → (act r d x .reason ≡ reasonBusy → ⊥) → act r d x .held ≡ 0
+unfolding heldWith
+act-unheld r d x other = act-held r d x ∙ rw (ne-eqb (act r d x .reason) reasonBusy other)
+
+-- .. and with that the one door that holds the person's grant
+pub act-held-door : (r : Record) (k : Kind) (d p : ℕ) → Sound r
+    → HeldDoor r (getD (r .holder) d 0) (act r d (doing r k d p) .reason) (act r d (doing r k d p) .held)
+act-held-door r k d p s =
+    let h = getD (r .holder) d 0 in
+    let x = doing r k d p in
+    ⊎-elim
+    (λ (is : act r d x .reason ≡ 0).
+    let other : act r d x .reason ≡ reasonBusy → ⊥ = λ e. omega arith in
+    subst (HeldDoor r h (act r d x .reason)) (sym (act-unheld r d x other)) (no-door other))
+    (λ (some : act r d x .reason ≡ 0 → ⊥).
+    let decides = act-reason r k d p (reasonFor r d h) (doorOf r d) some .0 in
+    subst (HeldDoor r h (act r d x .reason)) (sym (act-held r d x))
+    (held-first r s d h (act r d x .reason) (rw decides (decided-first r d p))))
+    (same-or-not (act r d x .reason) 0)
+
+pub held-door : (r : Record) → Sound r → (k : Kind) (d p : ℕ) → HeldDoor r (getD (r .holder) d 0) (stepOf r k d p .reason) (stepOf r k d p .held)
+held-door r s k d p =
+    step-cases (λ x. HeldDoor r (getD (r .holder) d 0) (x .reason) (x .held)) r k d p (λ _ _ _. no-door (λ z. omega arith))
+    (λ _. act-held-door r k d p s)
 
 -- a card is granted exactly when all three conditions hold, and else denied
 pub granted-exactly : (r : Record) (d p : ℕ) → stepOf r Decide d p .answer ≡ Done → (stepOf r Decide d p .phase ≡ granted) ↔ Admitted r d (getD (r .holder) d 0)

@@ -1,6 +1,6 @@
 -- What each step makes of a sound record is sound: what it puts at its door is right for that door. Assumes nothing.
 use Prim.Native.Nat.{ℕ, _≤_, _<_, _-_}
-use mathlib.Core.Path.{_≡_, refl, subst}
+use mathlib.Core.Path.{_≡_, refl, sym, subst, _∙_}
 use mathlib.Core.Bool.{true, false, true≢false, false≢true}
 use mathlib.Core.Logic.{⊎-elim}
 use native.Mathlib.Omega.{arith}
@@ -18,14 +18,15 @@ use Rattle.door.specs.Door.{door}
 use Rattle.record.specs.Doors.{doorOf, putDoor, Shaped}
 use Rattle.record.specs.Sound.{DoorOk, Sound}
 use Rattle.phases.specs.Kinds.{allows, namesPerson}
+use Rattle.phases.specs.Answers.{reasonNone, reasonAway, reasonBarred, reasonBusy}
 use Rattle.granting.specs.Grants.{GrantAt, hasGrant}
 use Rattle.door_does.specs.declared.Does.{Does}
 use Rattle.door_does.specs.declared.Does.the-variants.{Stays, Turns, Moves}
 use Rattle.door_does.specs.Does.{burns, effect}
-use Rattle.granting.specs.Reasons.{firstReason}
-use Rattle.record.specs.Steps.{reasonFor, Admitted, First, none, away, barred, busy, act}
+use Rattle.granting.specs.Reasons.{firstReason, heldWith}
+use Rattle.record.specs.Steps.{reasonFor, Admitted, First, none, away, barred, busy, heldFor, HeldDoor, the-grant, no-door, act}
 use Rattle.tables.proofs.Cases.{either, same-or-not, one-of}
-use Rattle.granting.proofs.Granting.{no-grant, has-grant, none-found, one-found}
+use Rattle.granting.proofs.Granting.{no-grant, has-grant, none-found, one-found, grant-is}
 use Rattle.record.proofs.Keep.{put-same, put-grant, put-sound, put-shaped, at-sound, at-shaped}
 
 -- ---- a denial's reason
@@ -64,6 +65,22 @@ admitted r d p e = go (reasonFor r d p) e (reason-first r d p)
 
 pub admits : (r : Record) (d p : ℕ) → Admitted r d p → reasonFor r d p ≡ 0
 admits r d p a = reason-only r d p 0 (none a)
+
+-- in a sound record "no person has two" grants
+pub one-grant : (r : Record) → Sound r → (p d e : ℕ) → GrantAt (r .doors) (r .phase) (r .holder) p d → GrantAt (r .doors) (r .phase) (r .holder) p e → e ≡ d
+one-grant r s p d e g h =
+    ⊎-elim (λ same. same)
+    (λ ne. absurd (s .doors d (g .exists) .alone (g .holds) e ne (record { exists = h .exists; holds = h .holds; person = h .person ∙ sym (g .person) })))
+    (same-or-not e d)
+
+-- the door that is told with the first reason is that of the person's grant, and 0 with any other reason
+pub held-first : (r : Record) → Sound r → (d p n : ℕ) → First r d p n → HeldDoor r p n (heldFor r p n)
+unfolding heldWith
+held-first r s d p n (none a) = no-door (λ (z : reasonNone ≡ reasonBusy). omega arith)
+held-first r s d p n (away a) = no-door (λ (z : reasonAway ≡ reasonBusy). omega arith)
+held-first r s d p n (barred a b) = no-door (λ (z : reasonBarred ≡ reasonBusy). omega arith)
+held-first r s d p n (busy a b e g) =
+    rw (grant-is (r .doors) (r .phase) (r .holder) p e g (λ f h ne. ne (one-grant r s p e f g h))) (the-grant g (λ f. one-grant r s p e f g))
 
 -- ---- doors that are right
 

@@ -16,7 +16,7 @@ holding r = recordOf (planOf r) (r .right)
 
 -- a step that hands this record back and tells this
 abbrev pub telling : Record → Told → Step
-telling r told = record { next = r; answer = told .answer; phase = told .phase; reason = told .reason }
+telling r told = record { next = r; answer = told .answer; phase = told .phase; reason = told .reason; held = told .held }
 
 -- the deed of a step of this record
 abbrev pub judged : Record → Kind → ℕ → ℕ → Deed

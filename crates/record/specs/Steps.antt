@@ -19,7 +19,7 @@ use Rattle.door_does.specs.Does.{effect}
 use Rattle.record.specs.Doors.{planOf, doorOf, putDoor, putAt}
 use Rattle.phases.specs.Kinds.{allows, namesPerson}
 use Rattle.granting.specs.Grants.{GrantAt}
-use Rattle.granting.specs.Reasons.{firstReason}
+use Rattle.granting.specs.Reasons.{firstReason, heldWith}
 use Rattle.record.specs.SoundTest.{soundB}
 
 -- the reason for which a record denies person p door d, 0 for none
@@ -40,21 +40,34 @@ pub data First (r : Record) (d p : ℕ) : ℕ → Type 0 where
   busy : getD (r .place) p 0 ≡ getD (r .origin) d 0 → mayBe (r .right) p (getD (r .destination) d 0) ≡ true
       → (e : ℕ) → GrantAt (r .doors) (r .phase) (r .holder) p e → First r d p reasonBusy
 
--- "A step answers its number, the door's phase afterwards .. and the reason": what a step that is done hands back
+-- the door that a record tells of person p with a reason
+abbrev pub heldFor : Record → ℕ → ℕ → ℕ
+heldFor r p why = heldWith why (r .doors) (r .phase) (r .holder) p
+
+-- 02, C-12: "`decide` must tell the door that is granted to the person, together with the reason", "(0 with any other reason)": the one
+-- door that holds the person's grant, told with reason 3
+pub data HeldDoor (r : Record) (p : ℕ) : ℕ → ℕ → Type 0 where
+  the-grant : {e : ℕ} → GrantAt (r .doors) (r .phase) (r .holder) p e → ((f : ℕ) → GrantAt (r .doors) (r .phase) (r .holder) p f → f ≡ e)
+      → HeldDoor r p reasonBusy e
+  no-door : {why : ℕ} → (why ≡ reasonBusy → ⊥) → HeldDoor r p why 0
+
+-- "A step answers its number, the door's phase afterwards .. and the reason", and with it that door: what a step that is done hands back
 unfoldable pub act : Record → ℕ → Does → Step
-act r d Stays = record { next = r; answer = Done; phase = getD (r .phase) d 0; reason = 0 }
-act r d (Turns c why) = record { next = putDoor r d c; answer = Done; phase = c .phase; reason = why }
+act r d Stays = record { next = r; answer = Done; phase = getD (r .phase) d 0; reason = 0; held = 0 }
+act r d (Turns c why) =
+    record { next = putDoor r d c; answer = Done; phase = c .phase; reason = why; held = heldFor r (getD (r .holder) d 0) why }
 act r d (Moves c) =
     record {
       next = putAt (putDoor r d c) (getD (r .holder) d 0) (getD (r .destination) d 0);
       answer = Done;
       phase = c .phase;
       reason = 0;
+      held = 0;
     }
 
 -- "After a refusal the record .. hold[s] what [it] held before."
 abbrev pub refused : Record → Answer → ℕ → Step
-refused r answer phase = record { next = r; answer = answer; phase = phase; reason = 0 }
+refused r answer phase = record { next = r; answer = answer; phase = phase; reason = 0; held = 0 }
 
 -- do the door and, of a card, the person exist?
 abbrev pub exist : Record → Kind → ℕ → ℕ → Bool
@@ -77,6 +90,6 @@ soundStep r k d p =
 unfoldable pub stepOf : Record → Kind → ℕ → ℕ → Step
 stepOf r k d p = cond (soundB r) (soundStep r k d p) (refused r Unsound 0)
 
--- "A step answers its number, the door's phase afterwards .. and the reason": what a step tells beside the record
+-- what a step tells beside the record
 abbrev pub toldBy : Step → Told
-toldBy s = record { answer = s .answer; phase = s .phase; reason = s .reason }
+toldBy s = record { answer = s .answer; phase = s .phase; reason = s .reason; held = s .held }

@@ -18,6 +18,7 @@ impl Record {
             answer: step.answer,
             phase: step.phase,
             reason: step.reason,
+            held: step.held,
         }
     }
 }

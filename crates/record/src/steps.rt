@@ -1,5 +1,5 @@
 // The ten steps, by value: each takes a record and hands the next record back with its answer, the
-// door's phase afterwards and the reason.
+// door's phase afterwards, the reason and the door that is told with it.
 ghost use mathlib.Core.Path.{_≡_};
 ghost use Rattle.phases.specs.Kinds.{kindOf};
 ghost use Rattle.record.specs.Steps.{refused, stepOf};
@@ -17,6 +17,7 @@ pub struct Step {
     pub answer: Answer,
     pub phase: u8,
     pub reason: u8,
+    pub held: usize,
 }
 
 impl Record {
@@ -29,6 +30,7 @@ impl Record {
             answer,
             phase,
             reason: Reason::NONE,
+            held: 0,
         }
     }
 
@@ -68,6 +70,7 @@ impl Record {
             answer,
             phase: told.phase,
             reason: told.reason,
+            held: told.held,
         }
     }
 

@@ -32,6 +32,7 @@ use Rattle.record.specs.Doors.{recordOf}
 use Rattle.record.proofs.Deeds.{judged-step}
 use Rattle.record.proofs.Laws.{sound-steps}
 use Rattle.numbers.specs.Telling.{NumberBy, done, _unless_then_}
+use Rattle.numbers.proofs.Alone.{beside-four}
 use Rattle.record_answers.specs.Deeds.{JudgeTells, DoorPut, CarryTells, DeedsAnswers, DeedsUnique}
 
 exist-tells : (people doors : ℕ) (k : Kind) (d p : ℕ) → Tells (existAmong people doors k d p) ((d < doors) × (namesPerson k ≡ true → p < people))
@@ -47,10 +48,10 @@ exist-tells people doors k d p =
     person false h = refl
 
 -- a step that may be done tells 0
-done-told : (x : Does) (phase held to : ℕ) → toldOf (deedOf x phase held to) .answer ≡ Done
-done-told Stays phase held to = refl
-done-told (Turns c why) phase held to = refl
-done-told (Moves c) phase held to = refl
+done-told : (x : Does) (current p to n : ℕ) (phase holder : List ℕ) → toldOf (deedOf x current p to n phase holder) .answer ≡ Done
+done-told Stays current p to n phase holder = refl
+done-told (Turns c why) current p to n phase holder = refl
+done-told (Moves c) current p to n phase holder = refl
 
 -- the number of a deed is that of the first fact that fails
 abbrev Numbered : Plan → List ℕ → Kind → ℕ → ℕ → Deed → Type 0
@@ -74,7 +75,7 @@ judge-tells site right place phase holder count k d p =
           (λ e.
           let x = exist-tells (site .people) (site .doors) k d p .yes e in
           either (Numbered site phase k d p) (asked k (getD phase d 0))
-          (λ may. inr (room, inr (x, inr (may, rw (done-told (effect k p (firstReason site right place phase holder d (getD holder d 0)) (doorIn phase holder count d)) (getD phase d 0) (getD holder d 0) (getD (site .destination) d 0))))))
+          (λ may. inr (room, inr (x, inr (may, rw (done-told (effect k p (firstReason site right place phase holder d (getD holder d 0)) (doorIn phase holder count d)) (getD phase d 0) (getD holder d 0) (getD (site .destination) d 0) (site .doors) phase holder)))))
           (λ barred. inr (room, inr (x, inl ((λ may. clash may barred), refl)))))
           (λ e. inr (room, inl ((λ x. clash (exist-tells (site .people) (site .doors) k d p .back x) e), refl))));
       is-step =
@@ -84,13 +85,13 @@ judge-tells site right place phase holder count k d p =
 
 -- a door that is put leaves the others as they were
 put-others : (d : ℕ) (phase holder count : List ℕ) (c : Door) (e : ℕ) → (e ≡ d → ⊥)
-    → doorIn (phasesAfter (Puts c 0) d phase) (holdersAfter (Puts c 0) d holder) (countsAfter (Puts c 0) d count) e ≡ doorIn phase holder count e
+    → doorIn (phasesAfter (Puts c 0 0) d phase) (holdersAfter (Puts c 0 0) d holder) (countsAfter (Puts c 0 0) d count) e ≡ doorIn phase holder count e
 put-others d phase holder count c e ne =
     rw (getD-set-other phase d e (c .phase) 0 ne, getD-set-other holder d e (c .holder) 0 ne, getD-set-other count d e (c .count) 0 ne)
 
 -- and is put itself, where the lists have it
-put-own : (d : ℕ) (phase holder count : List ℕ) (c : Door) (why : ℕ) → DoorPut (Puts c why) d phase holder count c why
-put-own d phase holder count c why =
+put-own : (d : ℕ) (phase holder count : List ℕ) (c : Door) (why held : ℕ) → DoorPut (Puts c why held) d phase holder count c why held
+put-own d phase holder count c why held =
     record {
       own-phase = getD-set-same phase d (c .phase) 0;
       own-holder = getD-set-same holder d (c .holder) 0;
@@ -98,25 +99,26 @@ put-own d phase holder count c why =
       told-done = refl;
       told-phase = refl;
       told-reason = refl;
+      told-held = refl;
     }
 
 carry-tells : (deed : Deed) (d : ℕ) (place phase holder count : List ℕ) → CarryTells deed d place phase holder count
 carry-tells (Told-so answer so) d place phase holder count =
     record { unaltered = λ _. (refl, refl, refl, refl); others = λ e ne. refl; carried-out = (refl, refl, refl, refl, refl); as-long = (refl, refl, refl, refl) }
-carry-tells (Puts c why) d place phase holder count =
+carry-tells (Puts c why held) d place phase holder count =
     record {
       unaltered = λ no-way. absurd (no-way refl);
       others = put-others d phase holder count c;
-      carried-out = (put-own d phase holder count c why, refl);
+      carried-out = (put-own d phase holder count c why held, refl);
       as-long = (refl, length-set phase d (c .phase), length-set holder d (c .holder), length-set count d (c .count));
     }
 carry-tells (Leads c p l) d place phase holder count =
-    let own = put-own d phase holder count c 0 in
+    let own = put-own d phase holder count c 0 0 in
     record {
       unaltered = λ no-way. absurd (no-way refl);
       others = put-others d phase holder count c;
       carried-out = (
-        record { own-phase = own .own-phase; own-holder = own .own-holder; own-count = own .own-count; told-done = refl; told-phase = refl; told-reason = refl },
+        record { own-phase = own .own-phase; own-holder = own .own-holder; own-count = own .own-count; told-done = refl; told-phase = refl; told-reason = refl; told-held = refl },
         getD-set-same place p l 0,
         λ q other. getD-set-other place p q l 0 other,
       );
@@ -130,11 +132,5 @@ pub deeds-unique : DeedsUnique
 deeds-unique =
     record {
       judge = λ people doors origin destination right place phase holder count k d p x y a b. a 0 [] ∙ sym (b 0 []);
-      carry-out = λ deed d place phase holder count x y a b.
-          let e = a .0 ∙ sym (b .0) in
-          let f = a .1 ∙ sym (b .1) in
-          let g = a .2 ∙ sym (b .2) in
-          let h = a .3 ∙ sym (b .3) in
-          let k = a .4 ∙ sym (b .4) in
-          λ i. (e i, f i, g i, h i, k i);
+      carry-out = λ deed d place phase holder count. beside-four;
     }

@@ -35,17 +35,17 @@ use Rattle.door_does.specs.declared.Does.the-variants.{Stays, Turns, Moves}
 use Rattle.door_does.specs.Does.{effect}
 use Rattle.deeds.specs.Deeds.{existAmong}
 use Rattle.record.specs.declared.steps.Step.{Step}
-use Rattle.record.specs.Steps.{reasonFor, act, refused, doing, exist, soundStep, stepOf, toldBy}
+use Rattle.record.specs.Steps.{reasonFor, HeldDoor, no-door, act, refused, doing, exist, soundStep, stepOf, toldBy}
 use Rattle.deeds.specs.declared.Told.{Told}
 use Rattle.record.specs.Deeds.{telling}
-use Rattle.record.specs.Run.{Reply, lastOf, repliesOf, answerTold, phaseTold, reasonTold, rowsOf, roomFor, roomIn, ranOf, runOf, tellingOf}
+use Rattle.record.specs.Run.{Reply, lastOf, repliesOf, answerTold, phaseTold, reasonTold, heldTold, rowsOf, roomFor, roomIn, ranOf, runOf, tellingOf}
 use Rattle.record.specs.Questions.{askedNo, unlessRefused, placeOf, grantFound, grantedTo, wayAnswerOf, wayWritten, wayAskedNo}
 use Rattle.tables.proofs.Cases.{either}
 use Rattle.record.proofs.Keep.{put-same}
 use Rattle.record.proofs.Fresh.{fresh-sound}
 use Rattle.record.proofs.Tells.{sound-tells}
 use Rattle.record.proofs.Asked.{place-as-said, grant-as-said, way-as-said}
-use Rattle.record.proofs.Laws.{act-done, unsound-14}
+use Rattle.record.proofs.Laws.{act-done, act-reason, act-unheld, act-held-door, unsound-14}
 use Rattle.numbers.specs.Telling.{NumberBy}
 use Rattle.record_answers.specs.Lending.{Lent, LentRows, none, one, replyOfTold, LentIsSteps, unsoundTold, LentIsRun}
 use Rattle.record_answers.specs.Answers.{Exists, stepOrder, StepTells, Room, RunTells, PlaceTells, GrantTells, WayOutTells, RecordAnswers}
@@ -76,32 +76,6 @@ act-phase r sh d h Stays = refl
 act-phase r sh d h (Turns c why) = sym (ap (λ (x : Door). x .phase) (put-same r sh d c h))
 act-phase r sh d h (Moves c) = sym (ap (λ (x : Door). x .phase) (put-same r sh d c h))
 
--- a step that is done tells a reason only where `decide` denies
-abbrev Reasoned : Record → Kind → ℕ → Does → Type 0
-Reasoned r k d x = (act r d x .reason ≡ 0 → ⊥) → (k ≡ Decide) × (act r d x .phase ≡ denied)
-
-act-reason : (r : Record) (k : Kind) (d p why : ℕ) (c : Door) → Reasoned r k d (effect k p why c)
-unfolding act effect
-act-reason r Card d p why c some = absurd (some refl)
-act-reason r Decide d p why c some =
-    either (Reasoned r Decide d) (eqb why 0) (λ _ some. absurd (some refl)) (λ _ _. (refl, refl)) some
-act-reason r Green d p why c some = absurd (some refl)
-act-reason r Red d p why c some = absurd (some refl)
-act-reason r Walk d p why c some = absurd (some refl)
-act-reason r Tick d p why c some =
-    either (Reasoned r Tick d) (eqb (c .phase) green)
-    (λ _. either (Reasoned r Tick d) (ltb 1 (c .count)) (λ _ some. absurd (some refl)) (λ _ some. absurd (some refl)))
-    (λ _.
-    either (Reasoned r Tick d) (eqb (c .phase) red)
-    (λ _. either (Reasoned r Tick d) (ltb 1 (c .count)) (λ _ some. absurd (some refl)) (λ _ some. absurd (some refl)))
-    (λ _ some. absurd (some refl)))
-    some
-act-reason r Passed d p why c some = absurd (some refl)
-act-reason r Lapsed d p why c some = absurd (some refl)
-act-reason r Dark d p why c some = absurd (some refl)
-act-reason r Ack d p why c some = absurd (some refl)
-act-reason r Unknown d p why c some = absurd (some refl)
-
 -- two answers of different numbers
 apart : {X : Type 0} {a b : Answer} → (answerNo a ≡ answerNo b → ⊥) → a ≡ b → X
 apart ne e = absurd (ne (ap answerNo e))
@@ -128,6 +102,8 @@ module _ (r : Record) (k : Kind) (d p : ℕ) where
         phase-untold = there;
         no-reason = λ _. refl;
         a-reason = λ reason. absurd (reason refl);
+        no-held = λ _. refl;
+        a-held = λ _. no-door (λ z. omega arith);
       }
 
   done-tells : NumberBy (stepOrder r k d p) 0 → soundB r ≡ true → d < r .doors → StepTells r k d p (act r d (doing r k d p))
@@ -142,6 +118,8 @@ module _ (r : Record) (k : Kind) (d p : ℕ) where
         phase-untold = ⊎-elim (λ e. apart (λ z. omega arith) (sym is ∙ e)) (λ e. apart (λ z. omega arith) (sym is ∙ e));
         no-reason = λ no-way. absurd (no-way is);
         a-reason = act-reason r k d p (reasonFor r d (getD (r .holder) d 0)) (doorOf r d);
+        no-held = act-unheld r d (doing r k d p);
+        a-held = λ sh. act-held-door r k d p (sound-tells r sh .yes s);
       }
 
   step-tells : StepTells r k d p (stepOf r k d p)
@@ -162,36 +140,36 @@ module _ (r : Record) (k : Kind) (d p : ℕ) where
 
 -- ---- a run and the questions
 
-room-tells : (steps doors persons answers phases reasons : List ℕ)
-    → Tells (roomIn steps doors persons answers phases reasons) (Room steps doors persons answers phases reasons)
+room-tells : (steps doors persons answers phases reasons held : List ℕ)
+    → Tells (roomIn steps doors persons answers phases reasons held) (Room steps doors persons answers phases reasons held)
 unfolding roomFor
-room-tells steps doors persons answers phases reasons =
-    tell-as (λ t. record { in-doors = t .0; in-persons = t .1 .0; in-answers = t .1 .1 .0; in-phases = t .1 .1 .1 .0; in-reasons = t .1 .1 .1 .1 })
-    (λ x. (x .in-doors, (x .in-persons, (x .in-answers, (x .in-phases, x .in-reasons)))))
-    (tell-and (tell-le _ _) (tell-and (tell-le _ _) (tell-and (tell-le _ _) (tell-and (tell-le _ _) (tell-le _ _)))))
+room-tells steps doors persons answers phases reasons held =
+    tell-as (λ t. record { in-doors = t .0; in-persons = t .1 .0; in-answers = t .1 .1 .0; in-phases = t .1 .1 .1 .0; in-reasons = t .1 .1 .1 .1 .0; in-held = t .1 .1 .1 .1 .1 })
+    (λ x. (x .in-doors, (x .in-persons, (x .in-answers, (x .in-phases, (x .in-reasons, x .in-held))))))
+    (tell-and (tell-le _ _) (tell-and (tell-le _ _) (tell-and (tell-le _ _) (tell-and (tell-le _ _) (tell-and (tell-le _ _) (tell-le _ _))))))
 
-module _ (r : Record) (steps doors persons answers phases reasons : List ℕ) where
-  run-tells : RunTells r steps doors persons answers phases reasons
+module _ (r : Record) (steps doors persons answers phases reasons held : List ℕ) where
+  run-tells : RunTells r steps doors persons answers phases reasons held
   unfolding ranOf tellingOf andAlso
-  run-tells = go (soundB r) refl (roomIn steps doors persons answers phases reasons) refl
+  run-tells = go (soundB r) refl (roomIn steps doors persons answers phases reasons held) refl
     where
-      go : (s : Bool) → soundB r ≡ s → (b : Bool) → roomIn steps doors persons answers phases reasons ≡ b → RunTells r steps doors persons answers phases reasons
+      go : (s : Bool) → soundB r ≡ s → (b : Bool) → roomIn steps doors persons answers phases reasons held ≡ b → RunTells r steps doors persons answers phases reasons held
       go true s true b =
           record {
-            number = inr (s, inr (room-tells steps doors persons answers phases reasons .yes b, rw (s, b)));
+            number = inr (s, inr (room-tells steps doors persons answers phases reasons held .yes b, rw (s, b)));
             unaltered = λ no-way. absurd (no-way (rw (s, b)));
-            ran = λ _. (rw (s, b), rw (s, b), rw (s, b), rw (s, b));
+            ran = λ _. (rw (s, b), rw (s, b), rw (s, b), rw (s, b), rw (s, b));
           }
       go true s false b =
           record {
-            number = inr (s, inl ((λ x. clash (room-tells steps doors persons answers phases reasons .back x) b), rw (s, b)));
-            unaltered = λ _. (rw (s, b), rw (s, b), rw (s, b), rw (s, b));
+            number = inr (s, inl ((λ x. clash (room-tells steps doors persons answers phases reasons held .back x) b), rw (s, b)));
+            unaltered = λ _. (rw (s, b), rw (s, b), rw (s, b), rw (s, b), rw (s, b));
             ran = λ e. apart (λ z. omega arith) (rw (s, b) at e);
           }
       go false s b _ =
           record {
             number = inl ((λ t. clash t s), rw s);
-            unaltered = λ _. (rw s, rw s, rw s, rw s);
+            unaltered = λ _. (rw s, rw s, rw s, rw s, rw s);
             ran = λ e. apart (λ z. omega arith) (rw s at e);
           }
 
@@ -220,25 +198,26 @@ lent-unsound {r} s (one {row} {rows} w more) =
     let others = on .1 in
     (on .0 ∙ stays, λ i. first i ∷ others i)
 
-module _ (r : Record) (steps doors persons answers phases reasons : List ℕ) where
-  lent-run : (runOf r steps doors persons answers phases reasons .answer ≡ TooShort → ⊥) → (last : Record) (told : List Told)
-      → LentRows r (rowsOf steps doors persons) last told → LentIsRun r steps doors persons answers phases reasons last told
+module _ (r : Record) (steps doors persons answers phases reasons held : List ℕ) where
+  lent-run : (runOf r steps doors persons answers phases reasons held .answer ≡ TooShort → ⊥) → (last : Record) (told : List Told)
+      → LentRows r (rowsOf steps doors persons) last told → LentIsRun r steps doors persons answers phases reasons held last told
   unfolding ranOf
-  lent-run long last told w = go (soundB r) refl (roomIn steps doors persons answers phases reasons) refl
+  lent-run long last told w = go (soundB r) refl (roomIn steps doors persons answers phases reasons held) refl
     where
-      ran-so : runOf r steps doors persons answers phases reasons .answer ≡ Done → soundB r ≡ true → LentIsRun r steps doors persons answers phases reasons last told
+      ran-so : runOf r steps doors persons answers phases reasons held .answer ≡ Done → soundB r ≡ true → LentIsRun r steps doors persons answers phases reasons held last told
       ran-so done s =
-          let ran = run-tells r steps doors persons answers phases reasons .ran done in
+          let ran = run-tells r steps doors persons answers phases reasons held .ran done in
           let is = lent-steps w in
           record {
             same-record = ran .0 ∙ sym (is .same-record);
             same-answers = λ _. ran .1 ∙ ap (λ (l : List Reply). sets answers 0 (map answerTold l)) (sym (is .same-told));
             same-phases = λ _. ran .2 ∙ ap (λ (l : List Reply). sets phases 0 (map phaseTold l)) (sym (is .same-told));
             same-reasons = λ _. ran .3 ∙ ap (λ (l : List Reply). sets reasons 0 (map reasonTold l)) (sym (is .same-told));
+            same-held = λ _. ran .4 ∙ ap (λ (l : List Reply). sets held 0 (map heldTold l)) (sym (is .same-told));
             unsound = λ f. clash s f;
           }
 
-      go : (s : Bool) → soundB r ≡ s → (b : Bool) → roomIn steps doors persons answers phases reasons ≡ b → LentIsRun r steps doors persons answers phases reasons last told
+      go : (s : Bool) → soundB r ≡ s → (b : Bool) → roomIn steps doors persons answers phases reasons held ≡ b → LentIsRun r steps doors persons answers phases reasons held last told
       go true s true b = ran-so (rw (s, b)) s
       go true s false b = absurd (long (rw (s, b)))
       go false s b _ =
@@ -248,6 +227,7 @@ module _ (r : Record) (steps doors persons answers phases reasons : List ℕ) wh
             same-answers = λ t. clash t s;
             same-phases = λ t. clash t s;
             same-reasons = λ t. clash t s;
+            same-held = λ t. clash t s;
             unsound = λ _. is .1;
           }
 

@@ -4,11 +4,13 @@ use mathlib.Core.Path.{_≡_, subst}
 use mathlib.Core.Bool.{Bool}
 use mathlib.Core.List.{List}
 use mathlib.Core.Logic.{_↔_}
+use borrow.Author.Tests.{ne-eqb}
 use Rattle.tables.specs.Tables.{Plan}
 use Rattle.tables.specs.Below.{Tells}
 use Rattle.findings.specs.declared.Found.the-variants.{At, Nothing}
 use Rattle.granting.specs.Grants.{GrantAt, grantOf, hasGrant}
-use Rattle.granting.specs.Reasons.{firstReason}
+use Rattle.granting.specs.Reasons.{firstReason, heldWith}
+use Rattle.phases.specs.Answers.{reasonBusy}
 use Rattle.soundness.specs.SoundTest.{listsSound}
 use Rattle.granting.proofs.Granting.{found-grant, found-first, first-found, no-grant, no-door}
 use Rattle.record.specs.Doors.{recordOf, Shaped}
@@ -34,10 +36,21 @@ grant-told n phase holder p = (
   ((λ e. no-grant n phase holder p (rw e)), no-door n phase holder p),
 )
 
+held-told : (why n : ℕ) (phase holder : List ℕ) (p : ℕ)
+    → ((d : ℕ) → FirstGrant n phase holder p d → heldWith reasonBusy n phase holder p ≡ d)
+    × (((d : ℕ) → GrantAt n phase holder p d → ⊥) → heldWith reasonBusy n phase holder p ≡ 0)
+    × ((why ≡ reasonBusy → ⊥) → heldWith why n phase holder p ≡ 0)
+unfolding heldWith
+held-told why n phase holder p = (
+  (λ d f. rw (first-found n phase holder p d (f .grant) (f .before))),
+  (λ none. rw (no-door n phase holder p none)),
+  λ other. rw (ne-eqb why reasonBusy other),
+)
+
 lists-tell : (site : Plan) (right : List Bool) (place phase holder count : List ℕ) → Shaped (recordOf site right place phase holder count)
     → Tells (listsSound site right place phase holder count) (Sound (recordOf site right place phase holder count))
 unfolding soundB
 lists-tell site right place phase holder count sh = sound-tells (recordOf site right place phase holder count) sh
 
 pub of-sound : SoundAnswers
-of-sound = record { grant-of = grant-told; first-reason = reason-told; lists-sound = lists-tell }
+of-sound = record { grant-of = grant-told; first-reason = reason-told; held-with = held-told; lists-sound = lists-tell }

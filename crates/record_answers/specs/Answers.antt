@@ -20,22 +20,22 @@ use Rattle.phases.specs.declared.table.Kind.the-variants.{Card, Decide, Green, 
 use Rattle.phases.specs.declared.answer.Answer.the-variants.{Done, NoSuch, NotAllowed, TooShort, Unsound}
 use Rattle.record.specs.declared.steps.Step.{Step}
 use Rattle.deeds.specs.declared.Told.{Told}
-use Rattle.phases.specs.Answers.{answerNo}
+use Rattle.phases.specs.Answers.{answerNo, reasonBusy}
 use Rattle.asked_place.specs.{placeTold, placeNo}
 use Rattle.asked_grant.specs.{grantTold, grantNo}
 use Rattle.asked_way.specs.{lengthTold, wayNo}
 use Rattle.phases.specs.Phase.{green, denied, red}
 use Rattle.record.specs.Doors.{recordOf, freshRecord, Shaped}
 use Rattle.granting.specs.Grants.{GrantAt, grantOf}
-use Rattle.granting.specs.Reasons.{firstReason}
+use Rattle.granting.specs.Reasons.{firstReason, heldWith}
 use Rattle.soundness.specs.SoundTest.{listsSound}
 use Rattle.phases.specs.Kinds.{StepRow, kindOf, allows, namesPerson}
 use Rattle.tables.specs.Zero.{ZeroBeyond}
 use Rattle.record.specs.Sound.{Sound}
 use Rattle.record.specs.SoundTest.{soundB}
-use Rattle.record.specs.Steps.{First, stepOf}
+use Rattle.record.specs.Steps.{First, HeldDoor, stepOf}
 use Rattle.record.specs.Deeds.{telling}
-use Rattle.record.specs.Run.{rowsOf, lastOf, repliesOf, answerTold, phaseTold, reasonTold, runOf, answersOf, phasesOf, reasonsOf}
+use Rattle.record.specs.Run.{rowsOf, lastOf, repliesOf, answerTold, phaseTold, reasonTold, heldTold, runOf, answersOf, phasesOf, reasonsOf, heldOf}
 use Rattle.record.specs.Questions.{askedNo, unlessRefused, placeOf, grantedTo, wayAnswerOf, wayWritten, wayAskedNo}
 use Rattle.numbers.specs.Telling.{Order, done, _unless_then_, NumberBy}
 use Rattle.record_answers.specs.Lending.{Lent, LentRows, LentIsSteps, LentIsRun}
@@ -55,6 +55,12 @@ pub record SoundAnswers : Type 0 where
   -- "reason 1 .., 2 .., 3 .., the first that applies", and 0 for none, of a record that has these lists
   pub first-reason : (site : Plan) (right : List Bool) (place phase holder count : List ℕ) (d p n : ℕ)
       → (firstReason site right place phase holder d p ≡ n) ↔ First (recordOf site right place phase holder count) d p n
+  -- "the door that is granted to the person", the smallest where several hold a grant, with reason 3; 0 where none does, and "0 with any
+  -- other reason"
+  pub held-with : (why n : ℕ) (phase holder : List ℕ) (p : ℕ)
+      → ((d : ℕ) → FirstGrant n phase holder p d → heldWith reasonBusy n phase holder p ≡ d)
+      × (((d : ℕ) → GrantAt n phase holder p d → ⊥) → heldWith reasonBusy n phase holder p ≡ 0)
+      × ((why ≡ reasonBusy → ⊥) → heldWith why n phase holder p ≡ 0)
   -- lists are told sound exactly when the record that has them is
   pub lists-sound : (site : Plan) (right : List Bool) (place phase holder count : List ℕ) → Shaped (recordOf site right place phase holder count)
       → Tells (listsSound site right place phase holder count) (Sound (recordOf site right place phase holder count))
@@ -82,32 +88,38 @@ pub record StepTells (r : Record) (k : Kind) (d p : ℕ) (s : Step) : Type 0 whe
   -- "and the reason (0 unless `decide` denied)"
   pub no-reason : (s .answer ≡ Done → ⊥) → s .reason ≡ 0
   pub a-reason : (s .reason ≡ 0 → ⊥) → (k ≡ Decide) × (s .phase ≡ denied)
+  -- 02, C-12: "The answer of a step gains that door (0 with any other reason)": the one door that holds the person's grant
+  pub no-held : (s .reason ≡ reasonBusy → ⊥) → s .held ≡ 0
+  pub a-held : Shaped r → HeldDoor r (getD (r .holder) d 0) (s .reason) (s .held)
 
 -- ---- crate `step_list`: a run; crate `questions`: the three questions
 
 -- each of the other lists is as long as the list of steps
-pub record Room (steps doors persons answers phases reasons : List ℕ) : Type 0 where
+pub record Room (steps doors persons answers phases reasons held : List ℕ) : Type 0 where
   pub in-doors : length steps ≤ length doors
   pub in-persons : length steps ≤ length persons
   pub in-answers : length steps ≤ length answers
   pub in-phases : length steps ≤ length phases
   pub in-reasons : length steps ≤ length reasons
+  pub in-held : length steps ≤ length held
 
-pub record RunTells (r : Record) (steps doors persons answers phases reasons : List ℕ) : Type 0 where
-  pub number : NumberBy (unsoundNo unless soundB r ≡ true then tooShortNo unless Room steps doors persons answers phases reasons then done)
-      (answerNo (runOf r steps doors persons answers phases reasons .answer))
+pub record RunTells (r : Record) (steps doors persons answers phases reasons held : List ℕ) : Type 0 where
+  pub number : NumberBy (unsoundNo unless soundB r ≡ true then tooShortNo unless Room steps doors persons answers phases reasons held then done)
+      (answerNo (runOf r steps doors persons answers phases reasons held .answer))
   -- "After a refusal the record and every lent list hold what they held before."
-  pub unaltered : (runOf r steps doors persons answers phases reasons .answer ≡ Done → ⊥)
-      → (runOf r steps doors persons answers phases reasons .next ≡ r)
-      × (answersOf r steps doors persons answers phases reasons ≡ answers)
-      × (phasesOf r steps doors persons answers phases reasons ≡ phases)
-      × (reasonsOf r steps doors persons answers phases reasons ≡ reasons)
+  pub unaltered : (runOf r steps doors persons answers phases reasons held .answer ≡ Done → ⊥)
+      → (runOf r steps doors persons answers phases reasons held .next ≡ r)
+      × (answersOf r steps doors persons answers phases reasons held ≡ answers)
+      × (phasesOf r steps doors persons answers phases reasons held ≡ phases)
+      × (reasonsOf r steps doors persons answers phases reasons held ≡ reasons)
+      × (heldOf r steps doors persons answers phases reasons held ≡ held)
   -- else the last record of the steps, and what was told of each in front of each list, the rest unaltered
-  pub ran : runOf r steps doors persons answers phases reasons .answer ≡ Done
-      → (runOf r steps doors persons answers phases reasons .next ≡ lastOf r (rowsOf steps doors persons))
-      × (answersOf r steps doors persons answers phases reasons ≡ sets answers 0 (map answerTold (repliesOf r (rowsOf steps doors persons))))
-      × (phasesOf r steps doors persons answers phases reasons ≡ sets phases 0 (map phaseTold (repliesOf r (rowsOf steps doors persons))))
-      × (reasonsOf r steps doors persons answers phases reasons ≡ sets reasons 0 (map reasonTold (repliesOf r (rowsOf steps doors persons))))
+  pub ran : runOf r steps doors persons answers phases reasons held .answer ≡ Done
+      → (runOf r steps doors persons answers phases reasons held .next ≡ lastOf r (rowsOf steps doors persons))
+      × (answersOf r steps doors persons answers phases reasons held ≡ sets answers 0 (map answerTold (repliesOf r (rowsOf steps doors persons))))
+      × (phasesOf r steps doors persons answers phases reasons held ≡ sets phases 0 (map phaseTold (repliesOf r (rowsOf steps doors persons))))
+      × (reasonsOf r steps doors persons answers phases reasons held ≡ sets reasons 0 (map reasonTold (repliesOf r (rowsOf steps doors persons))))
+      × (heldOf r steps doors persons answers phases reasons held ≡ sets held 0 (map heldTold (repliesOf r (rowsOf steps doors persons))))
 
 -- "A refused question tells its number, and 0 or none for all else."
 pub record PlaceTells (r : Record) (p : ℕ) : Type 0 where
@@ -152,9 +164,9 @@ pub record RecordAnswers : Type 0 where
   -- lent for one step after the other, it goes through the records of these steps, and those of a run; but of lists that are too short
   -- for the run (13), which then does nothing, while a lending takes no lists
   pub lent-steps : (r : Record) (rows : List StepRow) (last : Record) (told : List Told) → LentRows r rows last told → LentIsSteps r rows last told
-  pub lent-run : (r : Record) (steps doors persons answers phases reasons : List ℕ) → (runOf r steps doors persons answers phases reasons .answer ≡ TooShort → ⊥)
+  pub lent-run : (r : Record) (steps doors persons answers phases reasons held : List ℕ) → (runOf r steps doors persons answers phases reasons held .answer ≡ TooShort → ⊥)
       → (last : Record) (told : List Told) → LentRows r (rowsOf steps doors persons) last told
-      → LentIsRun r steps doors persons answers phases reasons last told
+      → LentIsRun r steps doors persons answers phases reasons held last told
   pub card : (r : Record) (d p : ℕ) → StepTells r Card d p (stepOf r Card d p)
   pub decide : (r : Record) (d : ℕ) → StepTells r Decide d 0 (stepOf r Decide d 0)
   pub green : (r : Record) (d : ℕ) → StepTells r Green d 0 (stepOf r Green d 0)
@@ -165,7 +177,7 @@ pub record RecordAnswers : Type 0 where
   pub lapsed : (r : Record) (d : ℕ) → StepTells r Lapsed d 0 (stepOf r Lapsed d 0)
   pub dark : (r : Record) (d : ℕ) → StepTells r Dark d 0 (stepOf r Dark d 0)
   pub ack : (r : Record) (d : ℕ) → StepTells r Ack d 0 (stepOf r Ack d 0)
-  pub run : (r : Record) (steps doors persons answers phases reasons : List ℕ) → RunTells r steps doors persons answers phases reasons
+  pub run : (r : Record) (steps doors persons answers phases reasons held : List ℕ) → RunTells r steps doors persons answers phases reasons held
   pub place-of : (r : Record) (p : ℕ) → PlaceTells r p
   pub granted-to : (r : Record) (p : ℕ) → GrantTells r p
   pub way-out : (r : Record) (l : ℕ) (list : List ℕ) → WayOutTells r l list

@@ -37,30 +37,31 @@ pub record JudgeTells (site : Plan) (right : List Bool) (place phase holder coun
       → carried (recordOf site right place phase holder count) d (judgedOf site right place phase holder count k d p)
       ≡ stepOf (recordOf site right place phase holder count) k d p
 
--- the door's own fields are those of c, in each list that has it; done is told, with its phase and this reason
-pub record DoorPut (deed : Deed) (d : ℕ) (phase holder count : List ℕ) (c : Door) (why : ℕ) : Type 0 where
+-- the door's own fields are those of c, in each list that has it; done is told, with its phase, this reason and this door
+pub record DoorPut (deed : Deed) (d : ℕ) (phase holder count : List ℕ) (c : Door) (why held : ℕ) : Type 0 where
   pub own-phase : d < length phase → getD (phasesAfter deed d phase) d 0 ≡ c .phase
   pub own-holder : d < length holder → getD (holdersAfter deed d holder) d 0 ≡ c .holder
   pub own-count : d < length count → getD (countsAfter deed d count) d 0 ≡ c .count
   pub told-done : toldOf deed .answer ≡ Done
   pub told-phase : toldOf deed .phase ≡ c .phase
   pub told-reason : toldOf deed .reason ≡ why
+  pub told-held : toldOf deed .held ≡ held
 
 -- what is done at the door and to people
 abbrev pub CarriedOut : Deed → ℕ → List ℕ → List ℕ → List ℕ → List ℕ → Type 0
 -- what only tells tells no reason, and leaves every list as it was
 CarriedOut (Tells answer so) d place phase holder count =
-    (toldOf (Tells answer so) ≡ record { answer = answer; phase = so; reason = 0 })
+    (toldOf (Tells answer so) ≡ record { answer = answer; phase = so; reason = 0; held = 0 })
     × (placesAfter (Tells answer so) place ≡ place)
     × (phasesAfter (Tells answer so) d phase ≡ phase)
     × (holdersAfter (Tells answer so) d holder ≡ holder)
     × (countsAfter (Tells answer so) d count ≡ count)
 -- a door is put, and nobody is moved
-CarriedOut (Puts c why) d place phase holder count =
-    DoorPut (Puts c why) d phase holder count c why × (placesAfter (Puts c why) place ≡ place)
+CarriedOut (Puts c why held) d place phase holder count =
+    DoorPut (Puts c why held) d phase holder count c why held × (placesAfter (Puts c why held) place ≡ place)
 -- a door is put, and of all people this one is moved to this location
 CarriedOut (Leads c person to) d place phase holder count =
-    DoorPut (Leads c person to) d phase holder count c 0
+    DoorPut (Leads c person to) d phase holder count c 0 0
     × (person < length place → getD (placesAfter (Leads c person to) place) person 0 ≡ to)
     × ((p : ℕ) → (p ≡ person → ⊥) → getD (placesAfter (Leads c person to) place) p 0 ≡ getD place p 0)
 

@@ -14,7 +14,7 @@ use Rattle.phases.specs.Answers.{answerNo}
 use Rattle.phases.specs.Kinds.{StepRow}
 use Rattle.record.specs.SoundTest.{soundB}
 use Rattle.record.specs.Steps.{stepOf, toldBy}
-use Rattle.record.specs.Run.{Reply, rowsOf, lastOf, repliesOf, answerTold, phaseTold, reasonTold, runOf, answersOf, phasesOf, reasonsOf}
+use Rattle.record.specs.Run.{Reply, rowsOf, lastOf, repliesOf, answerTold, phaseTold, reasonTold, heldTold, runOf, answersOf, phasesOf, reasonsOf, heldOf}
 
 -- what the promise of `step_lent` says of one lending: the record at exit, and what is told
 pub record Lent (entry : Record) (k : Kind) (d p : ℕ) (exit : Record) (told : Told) : Type 0 where
@@ -29,7 +29,7 @@ pub data LentRows : Record → List StepRow → Record → List Told → Type 0 
 
 -- what is told, by its number
 abbrev pub replyOfTold : Told → Reply
-replyOfTold told = record { answer = answerNo (told .answer); phase = told .phase; reason = told .reason }
+replyOfTold told = record { answer = answerNo (told .answer); phase = told .phase; reason = told .reason; held = told .held }
 
 -- it is the last record of the steps, and what is told is what they tell
 pub record LentIsSteps (r : Record) (rows : List StepRow) (last : Record) (told : List Told) : Type 0 where
@@ -38,13 +38,14 @@ pub record LentIsSteps (r : Record) (rows : List StepRow) (last : Record) (told 
 
 -- what a step tells of a record that isn't sound: 14
 abbrev pub unsoundTold : Told
-unsoundTold = record { answer = Unsound; phase = 0; reason = 0 }
+unsoundTold = record { answer = Unsound; phase = 0; reason = 0; held = 0 }
 
--- it is the record that a run hands back. Of a sound record what is told is what the run writes into its three lists; of another the
+-- it is the record that a run hands back. Of a sound record what is told is what the run writes into its four lists; of another the
 -- run answers 14 once and writes nothing, and each lending is told 14
-pub record LentIsRun (r : Record) (steps doors persons answers phases reasons : List ℕ) (last : Record) (told : List Told) : Type 0 where
-  pub same-record : runOf r steps doors persons answers phases reasons .next ≡ last
-  pub same-answers : soundB r ≡ true → answersOf r steps doors persons answers phases reasons ≡ sets answers 0 (map answerTold (map replyOfTold told))
-  pub same-phases : soundB r ≡ true → phasesOf r steps doors persons answers phases reasons ≡ sets phases 0 (map phaseTold (map replyOfTold told))
-  pub same-reasons : soundB r ≡ true → reasonsOf r steps doors persons answers phases reasons ≡ sets reasons 0 (map reasonTold (map replyOfTold told))
+pub record LentIsRun (r : Record) (steps doors persons answers phases reasons held : List ℕ) (last : Record) (told : List Told) : Type 0 where
+  pub same-record : runOf r steps doors persons answers phases reasons held .next ≡ last
+  pub same-answers : soundB r ≡ true → answersOf r steps doors persons answers phases reasons held ≡ sets answers 0 (map answerTold (map replyOfTold told))
+  pub same-phases : soundB r ≡ true → phasesOf r steps doors persons answers phases reasons held ≡ sets phases 0 (map phaseTold (map replyOfTold told))
+  pub same-reasons : soundB r ≡ true → reasonsOf r steps doors persons answers phases reasons held ≡ sets reasons 0 (map reasonTold (map replyOfTold told))
+  pub same-held : soundB r ≡ true → heldOf r steps doors persons answers phases reasons held ≡ sets held 0 (map heldTold (map replyOfTold told))
   pub unsound : soundB r ≡ false → told ≡ replicate (length (rowsOf steps doors persons)) unsoundTold

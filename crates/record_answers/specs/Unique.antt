@@ -24,13 +24,13 @@ use Rattle.asked_place.specs.{placeTold, placeNo}
 use Rattle.asked_grant.specs.{grantTold, grantNo}
 use Rattle.asked_way.specs.{lengthTold, wayNo}
 use Rattle.granting.specs.Grants.{grantOf}
-use Rattle.granting.specs.Reasons.{firstReason}
+use Rattle.granting.specs.Reasons.{firstReason, heldWith}
 use Rattle.soundness.specs.SoundTest.{listsSound}
 use Rattle.record.specs.Doors.{freshRecord}
 use Rattle.phases.specs.Kinds.{kindOf}
 use Rattle.record.specs.SoundTest.{soundB}
 use Rattle.record.specs.Steps.{stepOf, toldBy}
-use Rattle.record.specs.Run.{runOf, answersOf, phasesOf, reasonsOf}
+use Rattle.record.specs.Run.{runOf, answersOf, phasesOf, reasonsOf, heldOf}
 use Rattle.record.specs.Questions.{askedNo, unlessRefused, placeOf, grantedTo, wayAnswerOf, wayWritten, wayAskedNo}
 use Rattle.numbers.specs.Telling.{Unique}
 
@@ -39,6 +39,7 @@ pub record SoundUnique : Type 0 where
   pub first-reason : (doors : ℕ) (origin destination : List ℕ) (right : List Bool) (place phase holder : List ℕ) (d p : ℕ)
       → Unique
       (λ (x : ℕ). (people locations : ℕ) (exit : List ℕ) → x ≡ firstReason (plan people locations doors origin destination exit) right place phase holder d p)
+  pub held-with : (why n : ℕ) (phase holder : List ℕ) (p : ℕ) → Unique (λ (x : ℕ). x ≡ heldWith why n phase holder p)
   pub lists-sound : (site : Plan) (right : List Bool) (place phase holder count : List ℕ)
       → Unique (λ (x : Bool). x ≡ listsSound site right place phase holder count)
 
@@ -61,14 +62,15 @@ pub record RecordUnique : Type 0 where
   pub lapsed : (r : Record) (d : ℕ) → Unique (λ (x : Step). x ≡ stepOf r Lapsed d 0)
   pub dark : (r : Record) (d : ℕ) → Unique (λ (x : Step). x ≡ stepOf r Dark d 0)
   pub ack : (r : Record) (d : ℕ) → Unique (λ (x : Step). x ≡ stepOf r Ack d 0)
-  -- what is handed back, and the lists of answers, phases and reasons at exit
-  pub run : (r : Record) (steps doors persons answers phases reasons : List ℕ)
+  -- what is handed back, and the lists of answers, phases, reasons and held doors at exit
+  pub run : (r : Record) (steps doors persons answers phases reasons held : List ℕ)
       → Unique
-      (λ (x : Ran × List ℕ × List ℕ × List ℕ).
-      (x .0 ≡ runOf r steps doors persons answers phases reasons)
-      × (x .1 ≡ answersOf r steps doors persons answers phases reasons)
-      × (x .2 ≡ phasesOf r steps doors persons answers phases reasons)
-      × (x .3 ≡ reasonsOf r steps doors persons answers phases reasons))
+      (λ (x : Ran × List ℕ × List ℕ × List ℕ × List ℕ).
+      (x .0 ≡ runOf r steps doors persons answers phases reasons held)
+      × (x .1 ≡ answersOf r steps doors persons answers phases reasons held)
+      × (x .2 ≡ phasesOf r steps doors persons answers phases reasons held)
+      × (x .3 ≡ reasonsOf r steps doors persons answers phases reasons held)
+      × (x .4 ≡ heldOf r steps doors persons answers phases reasons held))
   -- the answer, its number and its value
   pub place-of : (r : Record) (p : ℕ)
       → Unique

@@ -6,7 +6,7 @@ ghost use Prim.Native.Nat.{_≤_};
 ghost use lib.ListN.{length};
 ghost use lib.Seq.{sets};
 ghost use Rattle.record.specs.SoundTest.{soundB};
-ghost use Rattle.record.specs.Run.{repliesOf, answerTold, phaseTold, reasonTold};
+ghost use Rattle.record.specs.Run.{repliesOf, answerTold, phaseTold, reasonTold, heldTold};
 ghost use Rattle.grammar.specs.Sizes.{limit};
 ghost use Rattle.steps_sheet.specs.Steps.{stepsFrom};
 ghost use Rattle.steps_sheet.specs.Lent.{mostSteps};
@@ -25,15 +25,17 @@ pub(crate) fn serve<'a>(
     answers: &'a mut [u8],
     phases: &'a mut [u8],
     reasons: &'a mut [u8],
+    held: &'a mut [usize],
 ) -> Served
     requires { ⌜ soundB fresh ≡ true ⌝ }
     requires { ⌜ length (now s) ≤ limit ⌝ }
-    requires { ⌜ (mostSteps ≤ length (now answers)) × (mostSteps ≤ length (now phases)) × (mostSteps ≤ length (now reasons)) ⌝ }
+    requires { ⌜ (mostSteps ≤ length (now answers)) × (mostSteps ≤ length (now phases)) × (mostSteps ≤ length (now reasons)) × (mostSteps ≤ length (now held)) ⌝ }
     ensures served { λ r. ⌜ r ≡ servedOf fresh (stepsFrom (now (s .entry)) from) ⌝ }
     ensures few { λ r. ⌜ r .count ≤ mostSteps ⌝ }
     ensures answers { λ _. ⌜ now (answers .exit) ≡ sets (now (answers .entry)) 0 (map answerTold (repliesOf fresh (stepsFrom (now (s .entry)) from .rows))) ⌝ }
     ensures phases { λ _. ⌜ now (phases .exit) ≡ sets (now (phases .entry)) 0 (map phaseTold (repliesOf fresh (stepsFrom (now (s .entry)) from .rows))) ⌝ }
     ensures reasons { λ _. ⌜ now (reasons .exit) ≡ sets (now (reasons .entry)) 0 (map reasonTold (repliesOf fresh (stepsFrom (now (s .entry)) from .rows))) ⌝ }
+    ensures held { λ _. ⌜ now (held .exit) ≡ sets (now (held .entry)) 0 (map heldTold (repliesOf fresh (stepsFrom (now (s .entry)) from .rows))) ⌝ }
 {
     let mut kinds = blank_bytes();
     let mut doors = blank_numbers();
@@ -48,6 +50,7 @@ pub(crate) fn serve<'a>(
         answers,
         phases,
         reasons,
+        held,
     );
     let next = ran.next;
     Served {

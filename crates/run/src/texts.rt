@@ -14,6 +14,7 @@ ghost use Rattle.steps_sheet.specs.Steps.{headingOf, stepsFrom};
 ghost use Rattle.run_text.specs.Printed.{answerRows, repliesFrom, runText, aloneText, ranText, stepsText, panelText};
 ghost use Rattle.run_text.specs.Printed.{placesText, recordText, lastRecord, whereText};
 use crate::blank::blank_bytes;
+use crate::blank::blank_doors;
 use crate::serve::serve;
 use findings::Printed;
 use number_rows::put_row;
@@ -36,11 +37,12 @@ fn put_answers<'a>(
     answers: &'a [u8],
     phases: &'a [u8],
     reasons: &'a [u8],
+    held: &'a [usize],
     out: &'a mut [u8],
     at: usize,
 ) -> usize
-    requires { ⌜ (length (now phases) ≡ length (now answers)) × (length (now reasons) ≡ length (now answers)) ⌝ }
-    ensures { λ r. ⌜ Wrote (now (out .entry)) at (answerRows 1 (repliesFrom (now (answers .entry)) (now (phases .entry)) (now (reasons .entry)))) (now (out .exit)) r ⌝ }
+    requires { ⌜ (length (now phases) ≡ length (now answers)) × (length (now reasons) ≡ length (now answers)) × (length (now held) ≡ length (now answers)) ⌝ }
+    ensures { λ r. ⌜ Wrote (now (out .entry)) at (answerRows 1 (repliesFrom (now (answers .entry)) (now (phases .entry)) (now (reasons .entry)) (now (held .entry)))) (now (out .exit)) r ⌝ }
 {
     let mut next = at;
     let mut i = 0;
@@ -48,7 +50,7 @@ fn put_answers<'a>(
         let answer = wide(answers[i]);
         let phase = wide(phases[i]);
         let reason = wide(reasons[i]);
-        next = put_row(out, next, i + 1, &[answer, phase, reason]);
+        next = put_row(out, next, i + 1, &[answer, phase, reason, held[i]]);
         i += 1;
     }
     next
@@ -59,14 +61,15 @@ fn put_run<'a>(
     answers: &'a [u8],
     phases: &'a [u8],
     reasons: &'a [u8],
+    held: &'a [usize],
     whole: bool,
     out: &'a mut [u8],
 ) -> usize
-    requires { ⌜ (length (now phases) ≡ length (now answers)) × (length (now reasons) ≡ length (now answers)) ⌝ }
-    ensures { λ r. ⌜ Wrote (now (out .entry)) 0 (runText (repliesFrom (now (answers .entry)) (now (phases .entry)) (now (reasons .entry))) whole) (now (out .exit)) r ⌝ }
+    requires { ⌜ (length (now phases) ≡ length (now answers)) × (length (now reasons) ≡ length (now answers)) × (length (now held) ≡ length (now answers)) ⌝ }
+    ensures { λ r. ⌜ Wrote (now (out .entry)) 0 (runText (repliesFrom (now (answers .entry)) (now (phases .entry)) (now (reasons .entry)) (now (held .entry))) whole) (now (out .exit)) r ⌝ }
 {
-    let rows = put_bytes(out, 0, b"row,answer,phase,reason\r\n");
-    let end = put_answers(answers, phases, reasons, out, rows);
+    let rows = put_bytes(out, 0, b"row,answer,phase,reason,held\r\n");
+    let end = put_answers(answers, phases, reasons, held, out, rows);
     if whole {
         return end;
     }
@@ -74,7 +77,7 @@ fn put_run<'a>(
         out,
         end,
         answers.len() + 1,
-        &[Paper::BAD_FORM as usize, 0, 0],
+        &[Paper::BAD_FORM as usize, 0, 0, 0],
     )
 }
 
@@ -83,25 +86,26 @@ fn print_run<'a>(
     answers: &'a [u8],
     phases: &'a [u8],
     reasons: &'a [u8],
+    held: &'a [usize],
     whole: bool,
     out: &'a mut [u8],
 ) -> Printed
-    requires { ⌜ (length (now phases) ≡ length (now answers)) × (length (now reasons) ≡ length (now answers)) ⌝ }
-    ensures { λ r. ⌜ Prints (runText (repliesFrom (now (answers .entry)) (now (phases .entry)) (now (reasons .entry))) whole) (now (out .entry)) r (now (out .exit)) ⌝ }
+    requires { ⌜ (length (now phases) ≡ length (now answers)) × (length (now reasons) ≡ length (now answers)) × (length (now held) ≡ length (now answers)) ⌝ }
+    ensures { λ r. ⌜ Prints (runText (repliesFrom (now (answers .entry)) (now (phases .entry)) (now (reasons .entry)) (now (held .entry))) whole) (now (out .entry)) r (now (out .exit)) ⌝ }
 {
-    let length = put_run(answers, phases, reasons, whole, &mut out[..0]);
+    let length = put_run(answers, phases, reasons, held, whole, &mut out[..0]);
     if out.len() < length {
         return Printed::TooShort;
     }
-    Printed::Text(put_run(answers, phases, reasons, whole, out))
+    Printed::Text(put_run(answers, phases, reasons, held, whole, out))
 }
 
 // A number alone after the header: a sheet was refused.
 fn put_alone(number: u8, out: &mut [u8]) -> usize
     ensures { λ r. ⌜ Wrote (now (out .entry)) 0 (aloneText number) (now (out .exit)) r ⌝ }
 {
-    let row = put_bytes(out, 0, b"row,answer,phase,reason\r\n");
-    put_row(out, row, 0, &[number as usize, 0, 0])
+    let row = put_bytes(out, 0, b"row,answer,phase,reason,held\r\n");
+    put_row(out, row, 0, &[number as usize, 0, 0, 0])
 }
 
 fn print_alone(number: u8, out: &mut [u8]) -> Printed
@@ -123,12 +127,14 @@ fn print_steps<'a>(fresh: Record, s: &'a [u8], from: usize, out: &'a mut [u8]) -
     let mut answers = blank_bytes();
     let mut phases = blank_bytes();
     let mut reasons = blank_bytes();
-    let served = serve(fresh, s, from, &mut answers, &mut phases, &mut reasons);
+    let mut held = blank_doors();
+    let served = serve(fresh, s, from, &mut answers, &mut phases, &mut reasons, &mut held);
     let count = served.count;
     print_run(
         &answers[..count],
         &phases[..count],
         &reasons[..count],
+        &held[..count],
         served.whole,
         out,
     )
@@ -203,7 +209,8 @@ fn record_after(fresh: Record, s: &[u8], from: usize) -> Record
     let mut answers = blank_bytes();
     let mut phases = blank_bytes();
     let mut reasons = blank_bytes();
-    let served = serve(fresh, s, from, &mut answers, &mut phases, &mut reasons);
+    let mut held = blank_doors();
+    let served = serve(fresh, s, from, &mut answers, &mut phases, &mut reasons, &mut held);
     served.next
 }
 

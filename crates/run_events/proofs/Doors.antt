@@ -21,9 +21,9 @@ use Rattle.record.proofs.Laws.{becomes, reasonIn}
 use Rattle.run_events.specs.Events.{Grant, Denial, Passage, Lapse, event, Nothing, meaningBy, Stage, NoCard, Awaited, After, Spell, spellBy, eventBy}
 use Rattle.run_events.specs.Told.{CardOf, GrantOf, standing, standingBy, standingAt, Granted, whatBy}
 
--- the reply of a step that was done at a door that was c
-abbrev pub doneReply : Door → Does → Reply
-doneReply c x = record { answer = 0; phase = becomes c x .phase; reason = reasonIn x }
+-- the reply of a step that was done at a door that was c, where each reason is told with this door
+abbrev pub doneReply : (ℕ → ℕ) → Door → Does → Reply
+doneReply held c x = record { answer = 0; phase = becomes c x .phase; reason = reasonIn x; held = held (reasonIn x) }
 
 -- ---- what stands at a door
 
@@ -40,7 +40,7 @@ card-person : (t : Stage) (q p : ℕ) → standingBy t q ≡ CardOf p → q ≡ 
 card-person NoCard q p e = cc
 card-person Awaited q p e = cc
 card-person (After Grant) q p e = cc
-card-person (After (Denial why)) q p e = cc
+card-person (After (Denial why held)) q p e = cc
 card-person (After Passage) q p e = cc
 card-person (After Lapse) q p e = cc
 
@@ -48,7 +48,7 @@ grant-stage : (t : Stage) (q p : ℕ) → standingBy t q ≡ GrantOf p → (t �
 grant-stage NoCard q p e = (cc, cc)
 grant-stage Awaited q p e = (cc, cc)
 grant-stage (After Grant) q p e = (refl, cc)
-grant-stage (After (Denial why)) q p e = (cc, cc)
+grant-stage (After (Denial why held)) q p e = (cc, cc)
 grant-stage (After Passage) q p e = (cc, cc)
 grant-stage (After Lapse) q p e = (cc, cc)
 
@@ -80,14 +80,15 @@ stands p why c a-dark ok = rw (eqb-true (c .phase) dimmed ok)
 
 -- ---- the ten steps
 
--- a step in row n that does x at door d, which was c, where s was told: why is the record's reason
-pub record Follows (n d p why : ℕ) (k : Kind) (c : Door) (x : Does) (s : Spell) : Type 0 where
-  pub seen : eventBy (meaningBy k (doneReply c x)) n d (s .person) ≡ map (event n d (c .holder)) (whatBy k why)
-  pub after : standing (spellBy (meaningBy k (doneReply c x)) n p s) ≡ standingAt (becomes c x)
+-- a step in row n that does x at door d, which was c, where s was told: why is the record's reason, and held the door that it tells with
+-- each reason
+pub record Follows (held : ℕ → ℕ) (n d p why : ℕ) (k : Kind) (c : Door) (x : Does) (s : Spell) : Type 0 where
+  pub seen : eventBy (meaningBy k (doneReply held c x)) n d (s .person) ≡ map (event n d (c .holder)) (whatBy k why (held why))
+  pub after : standing (spellBy (meaningBy k (doneReply held c x)) n p s) ≡ standingAt (becomes c x)
 
-module _ (n d p why : ℕ) (c : Door) (s : Spell) (agree : standing s ≡ standingAt c) where
+module _ (held : ℕ → ℕ) (n d p why : ℕ) (c : Door) (s : Spell) (agree : standing s ≡ standingAt c) where
   -- a step with no event that leaves standing what stood there
-  goes-on : {k : Kind} {x : Does} → meaningBy k (doneReply c x) ≡ Nothing → whatBy k why ≡ [] → standingAt (becomes c x) ≡ standingAt c → Follows n d p why k c x s
+  goes-on : {k : Kind} {x : Does} → meaningBy k (doneReply held c x) ≡ Nothing → whatBy k why (held why) ≡ [] → standingAt (becomes c x) ≡ standingAt c → Follows held n d p why k c x s
   unfolding eventBy spellBy
   goes-on nothing none same = record { seen = rw (nothing, none); after = rw (nothing, same) agree }
 
@@ -95,20 +96,20 @@ module _ (n d p why : ℕ) (c : Door) (s : Spell) (agree : standing s ≡ standi
   granted-to : grants (c .phase) ≡ true → Granted s (c .holder)
   granted-to g = is-granted s (c .holder) (agree ∙ at-grant c g)
 
-  pub door-follows : (k : Kind) → allows k (c .phase) ≡ true → Follows n d p why k c (effect k p why c) s
+  pub door-follows : (k : Kind) → allows k (c .phase) ≡ true → Follows held n d p why k c (effect k p why c) s
   unfolding allows effect meaningBy whatBy eventBy spellBy standingAt grants andAlso
   door-follows Card ok = record { seen = refl; after = refl }
   door-follows Decide ok = go (eqb why 0) refl (card-person (s .stage) (s .person) (c .holder) (agree ∙ at-read c (eqb-true (c .phase) read ok)))
     where
-      go : (t : Bool) → eqb why 0 ≡ t → s .person ≡ c .holder → Follows n d p why Decide c (effect Decide p why c) s
+      go : (t : Bool) → eqb why 0 ≡ t → s .person ≡ c .holder → Follows held n d p why Decide c (effect Decide p why c) s
       go true e same = record { seen = rw (e, same); after = rw (e, same) }
       go false e same = record { seen = rw (e, same); after = rw e }
   door-follows Green ok = goes-on refl refl (stands p why c a-green ok)
   door-follows Red ok = goes-on refl refl (stands p why c a-red ok)
   door-follows Walk ok = goes-on refl refl (stands p why c a-walk ok)
   door-follows Tick ok = goes-on refl refl (stands p why c a-tick ok)
-  door-follows Passed ok = let held = granted-to (rw (eqb-true (c .phase) walked ok)) in record { seen = rw (held .person); after = refl }
-  door-follows Lapsed ok = let held = granted-to (rw (eqb-true (c .phase) expired ok)) in record { seen = rw (held .person); after = refl }
+  door-follows Passed ok = let to = granted-to (rw (eqb-true (c .phase) walked ok)) in record { seen = rw (to .person); after = refl }
+  door-follows Lapsed ok = let to = granted-to (rw (eqb-true (c .phase) expired ok)) in record { seen = rw (to .person); after = refl }
   door-follows Dark ok = goes-on refl refl (stands p why c a-dark ok)
   door-follows Ack ok = record { seen = refl; after = refl }
   door-follows Unknown ok = absurd (false≢true ok)

@@ -15,11 +15,12 @@ use Rattle.phases.specs.declared.answer.Answer.{Answer}
 use Rattle.phases.specs.declared.answer.Answer.the-variants.{Done, NoSuch, NotAllowed, TooShort, Unsound}
 use Rattle.phases.specs.Answers.{answerNo}
 use Rattle.phases.specs.Kinds.{StepRow}
+use Rattle.granting.specs.Reasons.{heldWith}
 use Rattle.record.specs.declared.record.Record.{Record}
 use Rattle.record.specs.declared.steps.Step.{Step}
 use Rattle.record.specs.Doors.{doorOf, Shaped}
 use Rattle.record.specs.Sound.{Sound}
-use Rattle.record.specs.Steps.{reasonFor, act, refused, doing, stepOf}
+use Rattle.record.specs.Steps.{reasonFor, heldFor, act, refused, doing, stepOf}
 use Rattle.record.specs.Run.{Reply, replyBy, rowOf}
 use Rattle.record.proofs.Laws.{Allowed, step-cases, allowed-does, others-stay, door-after, act-done, becomes}
 use Rattle.run_events.specs.Lines.{Line}
@@ -31,14 +32,14 @@ use Rattle.run_events.proofs.Doors.{doneReply, Follows, door-follows}
 abbrev pub heardLine : StepRow → Step → Line
 heardLine row s = record { row = row; reply = replyBy s }
 
-pub act-reply : (r : Record) (d : ℕ) (x : Does) → replyBy (act r d x) ≡ doneReply (doorOf r d) x
-unfolding act
+pub act-reply : (r : Record) (d : ℕ) (x : Does) → replyBy (act r d x) ≡ doneReply (heldFor r (getD (r .holder) d 0)) (doorOf r d) x
+unfolding act heldWith
 act-reply r d Stays = refl
 act-reply r d (Turns c why) = refl
 act-reply r d (Moves c) = refl
 
 -- the line of a step that was done means what its kind says
-pub done-means : (r : Record) (row : StepRow) (x : Does) → meaningOf (heardLine row (act r (row .at) x)) ≡ meaningBy (row .kind) (doneReply (doorOf r (row .at)) x)
+pub done-means : (r : Record) (row : StepRow) (x : Does) → meaningOf (heardLine row (act r (row .at) x)) ≡ meaningBy (row .kind) (doneReply (heldFor r (getD (r .holder) (row .at) 0)) (doorOf r (row .at)) x)
 unfolding meaningOf
 done-means r row x = ap (λ (reply : Reply). meaningOf (record { row = row; reply = reply })) (act-reply r (row .at) x)
 
@@ -91,8 +92,8 @@ module _ (spells : ℕ → Spell) (n : ℕ) (r : Record) (sh : Shaped r) (s : So
     acted : stepOf r (row .kind) (row .at) (row .person) ≡ z
     acted = allowed-does r (row .kind) (row .at) (row .person) w
 
-    follow : Follows n (row .at) (row .person) (reasonFor r (row .at) (getD (r .holder) (row .at) 0)) (row .kind) (doorOf r (row .at)) (doing r (row .kind) (row .at) (row .person)) (spells (row .at))
-    follow = door-follows n (row .at) (row .person) _ (doorOf r (row .at)) (spells (row .at)) (agree .each (row .at)) (row .kind) (w .allowed)
+    follow : Follows (heldFor r (getD (r .holder) (row .at) 0)) n (row .at) (row .person) (reasonFor r (row .at) (getD (r .holder) (row .at) 0)) (row .kind) (doorOf r (row .at)) (doing r (row .kind) (row .at) (row .person)) (spells (row .at))
+    follow = door-follows _ n (row .at) (row .person) _ (doorOf r (row .at)) (spells (row .at)) (agree .each (row .at)) (row .kind) (w .allowed)
 
     here : standing (spellsAfter spells n (heardLine row z) (row .at)) ≡ standingAt (doorOf (z .next) (row .at))
     here = rw (after-here spells n (heardLine row z) (row .at) refl, door-here r (row .kind) (row .at) (row .person) sh s w, done-means r row (doing r (row .kind) (row .at) (row .person))) (follow .after)

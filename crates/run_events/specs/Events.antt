@@ -12,10 +12,10 @@ use Rattle.phases.specs.Kinds.{StepRow}
 use Rattle.record.specs.Run.{Reply}
 use Rattle.run_events.specs.Lines.{Line, heardOf}
 
--- what happens to a card: it is granted, or denied with a reason; a grant ends by a passage or a lapse
+-- what happens to a card: it is granted, or denied with a reason and the door told with it; a grant ends by a passage or a lapse
 pub data What : Type 0 where
   Grant : What
-  Denial : ℕ → What
+  Denial : ℕ → ℕ → What
   Passage : What
   Lapse : What
 
@@ -42,8 +42,8 @@ pub data Meaning : Type 0 where
 unfoldable pub meaningBy : Kind → Reply → Meaning
 -- "a `card` answered 11 or 12 was never taken": this one was
 meaningBy Card reply = Taken
--- "`decide`: 1 to 2 or 6", "and the reason (0 unless `decide` denied)"
-meaningBy Decide reply = Happened (cond (eqb (reply .phase) granted) Grant (Denial (reply .reason)))
+-- "`decide`: 1 to 2 or 6", "and the reason (0 unless `decide` denied)", with its door (02, C-12)
+meaningBy Decide reply = Happened (cond (eqb (reply .phase) granted) Grant (Denial (reply .reason) (reply .held)))
 -- "A refusal is recorded by the `decide` that denied, a passage by `passed`, a lapse by `lapsed`."
 meaningBy Passed reply = Happened Passage
 meaningBy Lapsed reply = Happened Lapse

@@ -4,7 +4,7 @@ use Rattle.record.specs.declared.record.Record.{Record}
 use Rattle.phases.specs.Kinds.{StepRow}
 use Rattle.record.specs.Run.{Reply, repliesOf}
 
--- a step, and "A step answers its number, the door's phase afterwards .. and the reason"
+-- a step, and "A step answers its number, the door's phase afterwards .. and the reason", with its door
 pub record Line : Type 0 where
   pub row : StepRow
   pub reply : Reply

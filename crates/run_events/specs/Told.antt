@@ -16,7 +16,7 @@ use Rattle.phases.specs.Phase.{free, read, grants}
 use Rattle.phases.specs.Kinds.{StepRow}
 use Rattle.record.specs.declared.steps.Step.{Step}
 use Rattle.record.specs.Doors.{doorOf}
-use Rattle.record.specs.Steps.{reasonFor}
+use Rattle.record.specs.Steps.{reasonFor, heldFor}
 use Rattle.record.specs.Run.{rowOf, lastOf}
 use Rattle.run_events.specs.Lines.{Line, heardOf}
 use Rattle.run_events.specs.Events.{What, Grant, Denial, Passage, Lapse, RunEvent, event, Taken, Happened, Nothing, meaningOf, Stage, NoCard, Awaited, After, Spell, spell, noSpell, spellsOf, eventsOf}
@@ -36,7 +36,7 @@ abbrev pub standingBy : Stage → ℕ → Standing
 standingBy NoCard person = Free
 standingBy Awaited person = CardOf person
 standingBy (After Grant) person = GrantOf person
-standingBy (After (Denial why)) person = Ended
+standingBy (After (Denial why held)) person = Ended
 standingBy (After Passage) person = Ended
 standingBy (After Lapse) person = Ended
 
@@ -71,25 +71,27 @@ pub record Granted (s : Spell) (p : ℕ) : Type 0 where
 
 -- ---- the events, seen in the record
 
--- what a step that is done does to the card at its door, why being the reason for which the record denies it, 0 for none
-unfoldable pub whatBy : Kind → ℕ → List What
-whatBy Decide why = cond (eqb why 0) Grant (Denial why) ∷ []
-whatBy Passed why = Passage ∷ []
-whatBy Lapsed why = Lapse ∷ []
-whatBy Card why = []
-whatBy Green why = []
-whatBy Red why = []
-whatBy Walk why = []
-whatBy Tick why = []
-whatBy Dark why = []
-whatBy Ack why = []
-whatBy Unknown why = []
+-- what a step that is done does to the card at its door, why being the reason for which the record denies it, 0 for none, and held the
+-- door that it tells with the reason
+unfoldable pub whatBy : Kind → ℕ → ℕ → List What
+whatBy Decide why held = cond (eqb why 0) Grant (Denial why held) ∷ []
+whatBy Passed why held = Passage ∷ []
+whatBy Lapsed why held = Lapse ∷ []
+whatBy Card why held = []
+whatBy Green why held = []
+whatBy Red why held = []
+whatBy Walk why held = []
+whatBy Tick why held = []
+whatBy Dark why held = []
+whatBy Ack why held = []
+whatBy Unknown why held = []
 
 -- the event of the step of row n that handed back z, with the person whom the record's door held before; a refused step has none
 abbrev pub seenOf : ℕ → Record → StepRow → Step → List RunEvent
 seenOf n r row z =
     let person = getD (r .holder) (row .at) 0 in
-    cond (eqb (answerNo (z .answer)) 0) (map (event n (row .at) person) (whatBy (row .kind) (reasonFor r (row .at) person))) []
+    let why = reasonFor r (row .at) person in
+    cond (eqb (answerNo (z .answer)) 0) (map (event n (row .at) person) (whatBy (row .kind) why (heldFor r person why))) []
 
 -- the events of a list of steps from row n on, the record looked into before each
 unfoldable pub eventsSeen : ℕ → Record → List StepRow → List RunEvent

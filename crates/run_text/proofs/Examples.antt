@@ -22,7 +22,7 @@ use Rattle.phases.specs.Kinds.{StepRow, kindOf, allows}
 use Rattle.granting.specs.Grants.{grantsTo, grantOf, hasGrant}
 use Rattle.record.specs.Sound.{Sound}
 use Rattle.door_does.specs.Does.{effect}
-use Rattle.granting.specs.Reasons.{firstReason}
+use Rattle.granting.specs.Reasons.{firstReason, heldWith}
 use Rattle.deeds.specs.Deeds.{existAmong}
 use Rattle.record.specs.Steps.{act, exist, soundStep}
 use Rattle.record.specs.Run.{Reply, replyBy, rowOf, lastOf, repliesOf}
@@ -142,7 +142,7 @@ panel-ran s e f = panel-here s e ∙ ap (ranText site-of-01) f ∙ sound-ran _
 texts : (soundRan stepsOf01 ≡ panelOf01)
     × (soundRan oneCard ≡ panelTop (four 1 0 1 0 (four 2 2 0 0 [])))
     × (recordText (soundLast site-of-01 (stepsOf01 .rows)) ≡ whereTop (two 0 1 (two 1 0 [])))
-unfolding soundRan soundReplies soundLast stepsOf01 oneCard soundStep firstReason effect act existAmong allows hasGrant grantOf leastBelow orAt grantsTo grants mayBe andAlso orElse zeros runText answerRows placeRows placesText rowOfNumbers decimal digits
+unfolding soundRan soundReplies soundLast stepsOf01 oneCard soundStep firstReason heldWith effect act existAmong allows hasGrant grantOf leastBelow orAt grantsTo grants mayBe andAlso orElse zeros runText answerRows placeRows placesText rowOfNumbers decimal digits
 texts = (refl, refl, refl)
 
 alone : (aloneText 2 ≡ panelTop (four 0 2 0 0 [])) × (aloneText 5 ≡ panelTop (four 0 5 0 0 [])) × (placesText [] ≡ whereTop []) × (recordText site-of-01 ≡ whereTop (two 0 0 (two 1 0 [])))

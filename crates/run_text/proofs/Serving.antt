@@ -14,7 +14,7 @@ use Rattle.record.specs.declared.record.Record.{Record}
 use Rattle.record.specs.declared.series.Ran.{Ran}
 use Rattle.phases.specs.declared.answer.Answer.the-variants.{Done}
 use Rattle.record.specs.SoundTest.{soundB}
-use Rattle.record.specs.Run.{Reply, rowsOf, lastOf, repliesOf, answerTold, phaseTold, reasonTold, roomFor, roomIn, ranOf, tellingOf, runOf}
+use Rattle.record.specs.Run.{Reply, rowsOf, lastOf, repliesOf, answerTold, phaseTold, reasonTold, heldTold, roomFor, roomIn, ranOf, tellingOf, runOf}
 use Rattle.phases.specs.Kinds.{StepRow}
 use Rattle.phases.proofs.Steps.{kind-back}
 use Rattle.steps_sheet.specs.declared.Decoded.{Decoded}
@@ -79,11 +79,11 @@ module _ (steps : Steps) (room : Bool) (yes : room ≡ true) {d : Decoded} (is :
 
 -- ---- a run of a sound record with room for its answers
 
-pub has-room : (n a p r : ℕ) → n ≤ a → n ≤ p → n ≤ r → roomFor n n n a p r ≡ true
+pub has-room : (n a p r h : ℕ) → n ≤ a → n ≤ p → n ≤ r → n ≤ h → roomFor n n n a p r h ≡ true
 unfolding roomFor
-has-room n a p r x y z =
-    tell-and (tell-le n n) (tell-and (tell-le n n) (tell-and (tell-le n a) (tell-and (tell-le n p) (tell-le n r)))) .back
-    (omega arith, (omega arith, (x, (y, z))))
+has-room n a p r h w x y z =
+    tell-and (tell-le n n) (tell-and (tell-le n n) (tell-and (tell-le n a) (tell-and (tell-le n p) (tell-and (tell-le n r) (tell-le n h))))) .back
+    (omega arith, (omega arith, (w, (x, (y, z)))))
 
 pub ran-last : (r : Record) (rows : List StepRow) (room : Bool) {ran : Ran} → soundB r ≡ true → room ≡ true → ran ≡ ranOf r rows room → ran .next ≡ lastOf r rows
 unfolding ranOf
@@ -96,23 +96,23 @@ unfolding tellingOf andAlso
 ran-told r room told list s e h = h ∙ rw (s, e)
 
 -- what a run of a sheet's steps hands back and writes
-module _ (r : Record) (steps : Steps) (answers phases reasons : List ℕ) (sound : soundB r ≡ true) (ha : length (steps .rows) ≤ length answers)
-    (hp : length (steps .rows) ≤ length phases) (hr : length (steps .rows) ≤ length reasons) where
-  run-room : roomIn (kindsIn steps) (doorsIn steps) (personsIn steps) answers phases reasons ≡ true
-  run-room = rw (map-length kindColumn (steps .rows), map-length doorColumn (steps .rows), map-length personColumn (steps .rows)) (has-room _ _ _ _ ha hp hr)
+module _ (r : Record) (steps : Steps) (answers phases reasons held : List ℕ) (sound : soundB r ≡ true) (ha : length (steps .rows) ≤ length answers)
+    (hp : length (steps .rows) ≤ length phases) (hr : length (steps .rows) ≤ length reasons) (hh : length (steps .rows) ≤ length held) where
+  run-room : roomIn (kindsIn steps) (doorsIn steps) (personsIn steps) answers phases reasons held ≡ true
+  run-room = rw (map-length kindColumn (steps .rows), map-length doorColumn (steps .rows), map-length personColumn (steps .rows)) (has-room _ _ _ _ _ ha hp hr hh)
 
   module _ {count : ℕ} {kinds doors persons : List ℕ} (d : Decodes steps count kinds doors persons) where
-    room-so : roomIn (take count kinds) (take count doors) (take count persons) answers phases reasons ≡ true
+    room-so : roomIn (take count kinds) (take count doors) (take count persons) answers phases reasons held ≡ true
     room-so = rw (d .kinds-are, d .doors-are, d .persons-are) run-room
 
     rows-so : rowsOf (take count kinds) (take count doors) (take count persons) ≡ steps .rows
     rows-so = rw (d .kinds-are, d .doors-are, d .persons-are) (rows-back (steps .rows))
 
-    pub ran-steps : {ran : Ran} → ran ≡ runOf r (take count kinds) (take count doors) (take count persons) answers phases reasons → ran .next ≡ lastOf r (steps .rows)
+    pub ran-steps : {ran : Ran} → ran ≡ runOf r (take count kinds) (take count doors) (take count persons) answers phases reasons held → ran .next ≡ lastOf r (steps .rows)
     ran-steps e = ran-last r _ _ sound room-so e ∙ ap (lastOf r) rows-so
 
     pub told-steps : {after : List ℕ} (tell : Reply → ℕ) (list : List ℕ)
-        → after ≡ tellingOf r (roomIn (take count kinds) (take count doors) (take count persons) answers phases reasons) (map tell (repliesOf r (rowsOf (take count kinds) (take count doors) (take count persons)))) list
+        → after ≡ tellingOf r (roomIn (take count kinds) (take count doors) (take count persons) answers phases reasons held) (map tell (repliesOf r (rowsOf (take count kinds) (take count doors) (take count persons)))) list
         → after ≡ sets list 0 (map tell (repliesOf r (steps .rows)))
     told-steps tell list e = ran-told r _ _ _ sound room-so e ∙ ap (λ (rows : List StepRow). sets list 0 (map tell (repliesOf r rows))) rows-so
 
@@ -125,8 +125,8 @@ replies-length r (first ∷ rows) = ap suc (replies-length _ rows)
 pub told-length : (tell : Reply → ℕ) (r : Record) (rows : List StepRow) → length (map tell (repliesOf r rows)) ≡ length rows
 told-length tell r rows = length-map (repliesOf r rows) tell ∙ replies-length r rows
 
--- the three lists of a list's parts are that list
-pub parts-back : (replies : List Reply) → repliesFrom (map answerTold replies) (map phaseTold replies) (map reasonTold replies) ≡ replies
+-- the four lists of a list's parts are that list
+pub parts-back : (replies : List Reply) → repliesFrom (map answerTold replies) (map phaseTold replies) (map reasonTold replies) (map heldTold replies) ≡ replies
 unfolding repliesFrom
 parts-back [] = refl
 parts-back (reply ∷ replies) = ap (λ (l : List Reply). reply ∷ l) (parts-back replies)

@@ -67,25 +67,27 @@ stepsSheet =
 
 -- ---- the two texts
 
--- `row,answer,phase,reason`
+-- `row,answer,phase,reason,held`
 abbrev pub panelTop : List ℕ → List ℕ
 panelTop more =
-    114 ∷ 111 ∷ 119 ∷ 44 ∷ 97 ∷ 110 ∷ 115 ∷ 119 ∷ 101 ∷ 114 ∷ 44 ∷ 112 ∷ 104 ∷ 97 ∷ 115 ∷ 101 ∷ 44 ∷ 114 ∷ 101 ∷ 97 ∷ 115 ∷ 111 ∷ 110 ∷ 13 ∷ 10 ∷ more
+    114 ∷ 111 ∷ 119 ∷ 44 ∷ 97 ∷ 110 ∷ 115 ∷ 119 ∷ 101 ∷ 114 ∷ 44 ∷ 112 ∷ 104 ∷ 97 ∷ 115 ∷ 101 ∷ 44 ∷ 114 ∷ 101 ∷ 97 ∷ 115 ∷ 111 ∷ 110 ∷ 44 ∷ 104
+    ∷ 101 ∷ 108 ∷ 100 ∷ 13 ∷ 10 ∷ more
 
 -- `person,location`
 abbrev pub whereTop : List ℕ → List ℕ
 whereTop more = 112 ∷ 101 ∷ 114 ∷ 115 ∷ 111 ∷ 110 ∷ 44 ∷ 108 ∷ 111 ∷ 99 ∷ 97 ∷ 116 ∷ 105 ∷ 111 ∷ 110 ∷ 13 ∷ 10 ∷ more
 
--- a row of four numbers of one digit, and a row of two
+-- a row of four numbers of one digit and the held door 0, and a row of two
 abbrev pub four : ℕ → ℕ → ℕ → ℕ → List ℕ → List ℕ
-four a b c d more = (48 + a) ∷ 44 ∷ (48 + b) ∷ 44 ∷ (48 + c) ∷ 44 ∷ (48 + d) ∷ 13 ∷ 10 ∷ more
+four a b c d more = (48 + a) ∷ 44 ∷ (48 + b) ∷ 44 ∷ (48 + c) ∷ 44 ∷ (48 + d) ∷ 44 ∷ 48 ∷ 13 ∷ 10 ∷ more
 
 abbrev pub two : ℕ → ℕ → List ℕ → List ℕ
 two a b more = (48 + a) ∷ 44 ∷ (48 + b) ∷ 13 ∷ 10 ∷ more
 
--- the last two rows, `9,12,9,0` and `10,11,0,0`
+-- the last two rows, `9,12,9,0,0` and `10,11,0,0,0`
 abbrev pub lastTwo : List ℕ
-lastTwo = 57 ∷ 44 ∷ 49 ∷ 50 ∷ 44 ∷ 57 ∷ 44 ∷ 48 ∷ 13 ∷ 10 ∷ 49 ∷ 48 ∷ 44 ∷ 49 ∷ 49 ∷ 44 ∷ 48 ∷ 44 ∷ 48 ∷ 13 ∷ 10 ∷ []
+lastTwo =
+    57 ∷ 44 ∷ 49 ∷ 50 ∷ 44 ∷ 57 ∷ 44 ∷ 48 ∷ 44 ∷ 48 ∷ 13 ∷ 10 ∷ 49 ∷ 48 ∷ 44 ∷ 49 ∷ 49 ∷ 44 ∷ 48 ∷ 44 ∷ 48 ∷ 44 ∷ 48 ∷ 13 ∷ 10 ∷ []
 
 abbrev pub panelOf01 : List ℕ
 panelOf01 =

@@ -16,35 +16,38 @@ use Rattle.steps_sheet.specs.Says.{Steps}
 use Rattle.steps_sheet.specs.Steps.{headingOf, stepsFrom}
 use Rattle.run_text.specs.declared.serve.Served.{Served}
 
--- "the header `row,answer,phase,reason`"
+-- "the header `row,answer,phase,reason`", and "every row the run prints gains a last column `held`" (02, C-12): `row,answer,phase,reason,held`
 abbrev pub panelHeader : List ℕ
-panelHeader = 114 ∷ 111 ∷ 119 ∷ 44 ∷ 97 ∷ 110 ∷ 115 ∷ 119 ∷ 101 ∷ 114 ∷ 44 ∷ 112 ∷ 104 ∷ 97 ∷ 115 ∷ 101 ∷ 44 ∷ 114 ∷ 101 ∷ 97 ∷ 115 ∷ 111 ∷ 110 ∷ 13 ∷ 10 ∷ []
+panelHeader =
+    114 ∷ 111 ∷ 119 ∷ 44 ∷ 97 ∷ 110 ∷ 115 ∷ 119 ∷ 101 ∷ 114 ∷ 44 ∷ 112 ∷ 104 ∷ 97 ∷ 115 ∷ 101 ∷ 44 ∷ 114 ∷ 101 ∷ 97 ∷ 115 ∷ 111 ∷ 110 ∷ 44 ∷ 104
+    ∷ 101 ∷ 108 ∷ 100 ∷ 13 ∷ 10 ∷ []
 
 -- "header `person,location`"
 abbrev pub whereHeader : List ℕ
 whereHeader = 112 ∷ 101 ∷ 114 ∷ 115 ∷ 111 ∷ 110 ∷ 44 ∷ 108 ∷ 111 ∷ 99 ∷ 97 ∷ 116 ∷ 105 ∷ 111 ∷ 110 ∷ 13 ∷ 10 ∷ []
 
 -- a row of what `panel` prints
-abbrev pub panelRow : ℕ → ℕ → ℕ → ℕ → List ℕ
-panelRow n answer phase reason = rowOfNumbers n (answer ∷ phase ∷ reason ∷ [])
+abbrev pub panelRow : ℕ → ℕ → ℕ → ℕ → ℕ → List ℕ
+panelRow n answer phase reason held = rowOfNumbers n (answer ∷ phase ∷ reason ∷ held ∷ [])
 
--- "a row for each data row", from row n on: its number, its answer, its phase and its reason
+-- "a row for each data row", from row n on: its number, its answer, its phase, its reason and the door told with it
 unfoldable pub answerRows : ℕ → List Reply → List ℕ
 answerRows n [] = []
-answerRows n (reply ∷ replies) = panelRow n (reply .answer) (reply .phase) (reply .reason) ++ answerRows (n + 1) replies
+answerRows n (reply ∷ replies) = panelRow n (reply .answer) (reply .phase) (reply .reason) (reply .held) ++ answerRows (n + 1) replies
 
--- three lent lists are a list of replies: each one's answer, phase and reason
-unfoldable pub repliesFrom : List ℕ → List ℕ → List ℕ → List Reply
-repliesFrom [] phases reasons = []
-repliesFrom (a ∷ answers) [] reasons = []
-repliesFrom (a ∷ answers) (p ∷ phases) [] = []
-repliesFrom (a ∷ answers) (p ∷ phases) (why ∷ reasons) =
-    record { answer = a; phase = p; reason = why } ∷ repliesFrom answers phases reasons
+-- four lent lists are a list of replies: each one's answer, phase, reason and held door
+unfoldable pub repliesFrom : List ℕ → List ℕ → List ℕ → List ℕ → List Reply
+repliesFrom [] phases reasons held = []
+repliesFrom (a ∷ answers) [] reasons held = []
+repliesFrom (a ∷ answers) (p ∷ phases) [] held = []
+repliesFrom (a ∷ answers) (p ∷ phases) (why ∷ reasons) [] = []
+repliesFrom (a ∷ answers) (p ∷ phases) (why ∷ reasons) (d ∷ held) =
+    record { answer = a; phase = p; reason = why; held = d } ∷ repliesFrom answers phases reasons held
 
--- "A row of form 2 is printed `row,2,0,0` and ends the run."
+-- "A row of form 2 is printed `row,2,0,0` and ends the run.", with the column
 abbrev pub lastRow : Bool → ℕ → List ℕ
 lastRow true n = []
-lastRow false n = panelRow n badFormNo 0 0
+lastRow false n = panelRow n badFormNo 0 0 0
 
 -- the text of a run: its replies, and the row of bad form that ended it, if one did
 unfoldable pub runText : List Reply → Bool → List ℕ
@@ -52,7 +55,7 @@ runText replies whole = panelHeader ++ (answerRows 1 replies ++ lastRow whole (l
 
 -- "each stands alone after the header"
 unfoldable pub aloneText : ℕ → List ℕ
-aloneText number = panelHeader ++ panelRow 0 number 0 0
+aloneText number = panelHeader ++ panelRow 0 number 0 0 0
 
 -- the record after the steps of a sheet, how many there were, and whether the sheet ends behind them
 abbrev pub servedOf : Record → Steps → Served

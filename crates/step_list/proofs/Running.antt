@@ -20,7 +20,7 @@ use Rattle.phases.specs.Kinds.{StepRow, kindOf}
 use Rattle.record.specs.Sound.{Sound}
 use Rattle.record.specs.SoundTest.{soundB}
 use Rattle.record.specs.Steps.{soundStep, stepOf}
-use Rattle.record.specs.Run.{rowOf, rowsOf, lastOf, Reply, replyBy, repliesOf, answerTold, phaseTold, reasonTold, roomFor, ranOf, tellingOf}
+use Rattle.record.specs.Run.{rowOf, rowsOf, lastOf, Reply, replyBy, repliesOf, answerTold, phaseTold, reasonTold, heldTold, roomFor, ranOf, tellingOf}
 use Rattle.record.proofs.Laws.{sound-steps, sound-stays, shaped-stays, room-stays}
 
 -- the steps from the one at i on
@@ -53,7 +53,7 @@ pub record Telling (tell : Reply → ℕ) (r₀ : Record) (rows₀ : List StepRo
   pub behind : sets list i (map tell (repliesOf r rows)) ≡ sets list₀ 0 (map tell (repliesOf r₀ rows₀))
 
 -- the loop has come to step i, with the record r
-pub record Running (steps doors persons answers₀ phases₀ reasons₀ : List ℕ) (r₀ : Record) (answers phases reasons : List ℕ) (r : Record) (i : ℕ) : Type 0 where
+pub record Running (steps doors persons answers₀ phases₀ reasons₀ held₀ : List ℕ) (r₀ : Record) (answers phases reasons held : List ℕ) (r : Record) (i : ℕ) : Type 0 where
   pub sound : Sound r
   pub shaped : Shaped r
   pub room : length (r .place) ≡ mostPeople
@@ -62,9 +62,10 @@ pub record Running (steps doors persons answers₀ phases₀ reasons₀ : List �
   pub answered : Telling answerTold r₀ (rowsOf steps doors persons) answers₀ r (stepsFromAt steps doors persons i) answers i
   pub phased : Telling phaseTold r₀ (rowsOf steps doors persons) phases₀ r (stepsFromAt steps doors persons i) phases i
   pub reasoned : Telling reasonTold r₀ (rowsOf steps doors persons) reasons₀ r (stepsFromAt steps doors persons i) reasons i
+  pub with-doors : Telling heldTold r₀ (rowsOf steps doors persons) held₀ r (stepsFromAt steps doors persons i) held i
 
-pub run-start : {steps doors persons answers phases reasons : List ℕ} {r : Record} → Sound r → Shaped r → length (r .place) ≡ mostPeople
-    → Running steps doors persons answers phases reasons r answers phases reasons r 0
+pub run-start : {steps doors persons answers phases reasons held : List ℕ} {r : Record} → Sound r → Shaped r → length (r .place) ≡ mostPeople
+    → Running steps doors persons answers phases reasons held r answers phases reasons held r 0
 run-start s sh room =
     record {
       sound = s;
@@ -75,6 +76,7 @@ run-start s sh room =
       answered = record { long = refl; behind = refl };
       phased = record { long = refl; behind = refl };
       reasoned = record { long = refl; behind = refl };
+      with-doors = record { long = refl; behind = refl };
     }
 
 -- one more is told
@@ -95,10 +97,10 @@ unfolding repliesOf
 tell-end {tell} {r₀} {r} {rows₀} {rows} {list₀} {list} {i} none t =
     subst (λ (x : List StepRow). sets list i (map tell (repliesOf r x)) ≡ sets list₀ 0 (map tell (repliesOf r₀ rows₀))) none (t .behind)
 
-module _ {steps doors persons answers₀ phases₀ reasons₀ : List ℕ} {r₀ : Record} {answers phases reasons : List ℕ} {r : Record} {i : ℕ} where
-  pub run-more : (s : Step) → Running steps doors persons answers₀ phases₀ reasons₀ r₀ answers phases reasons r i → Has steps doors persons i
+module _ {steps doors persons answers₀ phases₀ reasons₀ held₀ : List ℕ} {r₀ : Record} {answers phases reasons held : List ℕ} {r : Record} {i : ℕ} where
+  pub run-more : (s : Step) → Running steps doors persons answers₀ phases₀ reasons₀ held₀ r₀ answers phases reasons held r i → Has steps doors persons i
       → s ≡ soundStep r (kindOf (getD steps i 0)) (getD doors i 0) (getD persons i 0)
-      → Running steps doors persons answers₀ phases₀ reasons₀ r₀ (set answers i (answerNo (s .answer))) (set phases i (s .phase)) (set reasons i (s .reason)) (s .next) (i + 1)
+      → Running steps doors persons answers₀ phases₀ reasons₀ held₀ r₀ (set answers i (answerNo (s .answer))) (set phases i (s .phase)) (set reasons i (s .reason)) (set held i (s .held)) (s .next) (i + 1)
   unfolding lastOf
   run-more s run has is =
       let k = kindOf (getD steps i 0) in
@@ -116,9 +118,10 @@ module _ {steps doors persons answers₀ phases₀ reasons₀ : List ℕ} {r₀ 
         answered = tell-more answerTold r₀ r _ _ _ (rowAt steps doors persons i) answers₀ answers i s more step (run .answered);
         phased = tell-more phaseTold r₀ r _ _ _ (rowAt steps doors persons i) phases₀ phases i s more step (run .phased);
         reasoned = tell-more reasonTold r₀ r _ _ _ (rowAt steps doors persons i) reasons₀ reasons i s more step (run .reasoned);
+        with-doors = tell-more heldTold r₀ r _ _ _ (rowAt steps doors persons i) held₀ held i s more step (run .with-doors);
       }
 
-  module _ (run : Running steps doors persons answers₀ phases₀ reasons₀ r₀ answers phases reasons r i) (over : length steps ≤ i) where
+  module _ (run : Running steps doors persons answers₀ phases₀ reasons₀ held₀ r₀ answers phases reasons held r i) (over : length steps ≤ i) where
     pub run-last : r ≡ lastOf r₀ (rowsOf steps doors persons)
     unfolding lastOf
     run-last = rw (rows-end steps doors persons i over) at (run .last)
@@ -131,6 +134,9 @@ module _ {steps doors persons answers₀ phases₀ reasons₀ : List ℕ} {r₀ 
 
     pub run-reasons : reasons ≡ sets reasons₀ 0 (map reasonTold (repliesOf r₀ (rowsOf steps doors persons)))
     run-reasons = tell-end (rows-end steps doors persons i over) (run .reasoned)
+
+    pub run-held : held ≡ sets held₀ 0 (map heldTold (repliesOf r₀ (rowsOf steps doors persons)))
+    run-held = tell-end (rows-end steps doors persons i over) (run .with-doors)
 
 -- ---- how a run ends: s is what the test of soundness told, b whether there is room
 
@@ -162,15 +168,25 @@ module _ (r : Record) (room : Bool) (told list : List ℕ) (s : Bool) (tested : 
   telling-done b written fine is enough e = rw (← tested, not-false s fine, ← is, not-false b enough) e
 
 -- where there is room every list is long enough
-pub record RunRoom (steps doors persons answers phases reasons : ℕ) : Type 0 where
+pub record RunRoom (steps doors persons answers phases reasons held : ℕ) : Type 0 where
   pub in-doors : steps ≤ doors
   pub in-persons : steps ≤ persons
   pub in-answers : steps ≤ answers
   pub in-phases : steps ≤ phases
   pub in-reasons : steps ≤ reasons
+  pub in-held : steps ≤ held
 
-pub room : (a b c d e f : ℕ) (t : Bool) → t ≡ roomFor a b c d e f → not t ≡ false → RunRoom a b c d e f
+pub room : (a b c d e f g : ℕ) (t : Bool) → t ≡ roomFor a b c d e f g → not t ≡ false → RunRoom a b c d e f g
 unfolding roomFor
-room a b c d e f t is enough =
-    let all = tell-and (tell-le a b) (tell-and (tell-le a c) (tell-and (tell-le a d) (tell-and (tell-le a e) (tell-le a f)))) .yes (sym is ∙ not-false t enough) in
-    record { in-doors = all .0; in-persons = all .1 .0; in-answers = all .1 .1 .0; in-phases = all .1 .1 .1 .0; in-reasons = all .1 .1 .1 .1 }
+room a b c d e f g t is enough =
+    let all =
+    tell-and (tell-le a b) (tell-and (tell-le a c) (tell-and (tell-le a d) (tell-and (tell-le a e) (tell-and (tell-le a f) (tell-le a g))))) .yes (sym is ∙ not-false t enough)
+    in
+    record {
+      in-doors = all .0;
+      in-persons = all .1 .0;
+      in-answers = all .1 .1 .0;
+      in-phases = all .1 .1 .1 .0;
+      in-reasons = all .1 .1 .1 .1 .0;
+      in-held = all .1 .1 .1 .1 .1;
+    }

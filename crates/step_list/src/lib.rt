@@ -6,8 +6,8 @@ ghost use Prim.Native.Nat.{_≤_};
 ghost use lib.ListN.{length};
 ghost use lib.Seq.{sets};
 ghost use Rattle.record.specs.Sound.{Sound};
-ghost use Rattle.record.specs.Run.{rowsOf, lastOf, repliesOf, answerTold, phaseTold, reasonTold};
-ghost use Rattle.record.specs.Run.{roomFor, runOf, answersOf, phasesOf, reasonsOf};
+ghost use Rattle.record.specs.Run.{rowsOf, lastOf, repliesOf, answerTold, phaseTold, reasonTold, heldTold};
+ghost use Rattle.record.specs.Run.{roomFor, runOf, answersOf, phasesOf, reasonsOf, heldOf};
 use deeds::carry_out;
 use deeds::judge;
 use lists::word_at;
@@ -24,8 +24,9 @@ fn room_for(
     answers: usize,
     phases: usize,
     reasons: usize,
+    held: usize,
 ) -> bool
-    ensures { λ r. ⌜ r ≡ roomFor steps doors persons answers phases reasons ⌝ }
+    ensures { λ r. ⌜ r ≡ roomFor steps doors persons answers phases reasons held ⌝ }
 {
     if doors < steps {
         return false;
@@ -39,40 +40,45 @@ fn room_for(
     if phases < steps {
         return false;
     }
-    steps <= reasons
+    if reasons < steps {
+        return false;
+    }
+    steps <= held
 }
 
 // The steps of a sound record, one after the other.
 fn run_rows<'a>(
-    mut held: Record,
+    mut start: Record,
     steps: &'a [u8],
     doors: &'a [u16],
     persons: &'a [u16],
     answers: &'a mut [u8],
     phases: &'a mut [u8],
     reasons: &'a mut [u8],
+    held: &'a mut [usize],
 ) -> Record
-    requires { ⌜ Sound held ⌝ }
+    requires { ⌜ Sound start ⌝ }
     requires { ⌜ (length (now steps) ≤ length (now doors)) × (length (now steps) ≤ length (now persons)) ⌝ }
-    requires { ⌜ (length (now steps) ≤ length (now answers)) × (length (now steps) ≤ length (now phases)) × (length (now steps) ≤ length (now reasons)) ⌝ }
-    ensures last { λ r. ⌜ r ≡ lastOf held (rowsOf (now (steps .entry)) (now (doors .entry)) (now (persons .entry))) ⌝ }
-    ensures answers { λ _. ⌜ now (answers .exit) ≡ sets (now (answers .entry)) 0 (map answerTold (repliesOf held (rowsOf (now (steps .entry)) (now (doors .entry)) (now (persons .entry))))) ⌝ }
-    ensures phases { λ _. ⌜ now (phases .exit) ≡ sets (now (phases .entry)) 0 (map phaseTold (repliesOf held (rowsOf (now (steps .entry)) (now (doors .entry)) (now (persons .entry))))) ⌝ }
-    ensures reasons { λ _. ⌜ now (reasons .exit) ≡ sets (now (reasons .entry)) 0 (map reasonTold (repliesOf held (rowsOf (now (steps .entry)) (now (doors .entry)) (now (persons .entry))))) ⌝ }
+    requires { ⌜ (length (now steps) ≤ length (now answers)) × (length (now steps) ≤ length (now phases)) × (length (now steps) ≤ length (now reasons)) × (length (now steps) ≤ length (now held)) ⌝ }
+    ensures last { λ r. ⌜ r ≡ lastOf start (rowsOf (now (steps .entry)) (now (doors .entry)) (now (persons .entry))) ⌝ }
+    ensures answers { λ _. ⌜ now (answers .exit) ≡ sets (now (answers .entry)) 0 (map answerTold (repliesOf start (rowsOf (now (steps .entry)) (now (doors .entry)) (now (persons .entry))))) ⌝ }
+    ensures phases { λ _. ⌜ now (phases .exit) ≡ sets (now (phases .entry)) 0 (map phaseTold (repliesOf start (rowsOf (now (steps .entry)) (now (doors .entry)) (now (persons .entry))))) ⌝ }
+    ensures reasons { λ _. ⌜ now (reasons .exit) ≡ sets (now (reasons .entry)) 0 (map reasonTold (repliesOf start (rowsOf (now (steps .entry)) (now (doors .entry)) (now (persons .entry))))) ⌝ }
+    ensures held { λ _. ⌜ now (held .exit) ≡ sets (now (held .entry)) 0 (map heldTold (repliesOf start (rowsOf (now (steps .entry)) (now (doors .entry)) (now (persons .entry))))) ⌝ }
 {
-    let mut place = held.place;
-    let mut phase = held.phase;
-    let mut holder = held.holder;
-    let mut count = held.count;
+    let mut place = start.place;
+    let mut phase = start.phase;
+    let mut holder = start.holder;
+    let mut count = start.count;
     let mut at = 0;
     while at < steps.len() {
         let door = word_at(doors, at) as usize;
         let deed = judge(
-            held.people,
-            held.doors,
-            &held.origin,
-            &held.destination,
-            &held.right,
+            start.people,
+            start.doors,
+            &start.origin,
+            &start.destination,
+            &start.right,
             &place,
             &phase,
             &holder,
@@ -86,34 +92,37 @@ fn run_rows<'a>(
         answers[at] = answer.number();
         phases[at] = told.phase;
         reasons[at] = told.reason;
+        held[at] = told.held;
         at += 1;
     }
-    held.place = place;
-    held.phase = phase;
-    held.holder = holder;
-    held.count = count;
-    held
+    start.place = place;
+    start.phase = phase;
+    start.holder = holder;
+    start.count = count;
+    start
 }
 
 // Runs a list of steps: the number of each step, its door and its person are lent, and the
-// answer, the phase and the reason of each are written into the lists lent for them.
+// answer, the phase, the reason of each and the door told with it are written into the lists lent for them.
 pub fn run<'a>(
-    held: Record,
+    start: Record,
     steps: &'a [u8],
     doors: &'a [u16],
     persons: &'a [u16],
     answers: &'a mut [u8],
     phases: &'a mut [u8],
     reasons: &'a mut [u8],
+    held: &'a mut [usize],
 ) -> Ran
-    ensures ran { λ r. ⌜ r ≡ runOf held (now (steps .entry)) (now (doors .entry)) (now (persons .entry)) (now (answers .entry)) (now (phases .entry)) (now (reasons .entry)) ⌝ }
-    ensures answers { λ _. ⌜ now (answers .exit) ≡ answersOf held (now (steps .entry)) (now (doors .entry)) (now (persons .entry)) (now (answers .entry)) (now (phases .entry)) (now (reasons .entry)) ⌝ }
-    ensures phases { λ _. ⌜ now (phases .exit) ≡ phasesOf held (now (steps .entry)) (now (doors .entry)) (now (persons .entry)) (now (answers .entry)) (now (phases .entry)) (now (reasons .entry)) ⌝ }
-    ensures reasons { λ _. ⌜ now (reasons .exit) ≡ reasonsOf held (now (steps .entry)) (now (doors .entry)) (now (persons .entry)) (now (answers .entry)) (now (phases .entry)) (now (reasons .entry)) ⌝ }
+    ensures ran { λ r. ⌜ r ≡ runOf start (now (steps .entry)) (now (doors .entry)) (now (persons .entry)) (now (answers .entry)) (now (phases .entry)) (now (reasons .entry)) (now (held .entry)) ⌝ }
+    ensures answers { λ _. ⌜ now (answers .exit) ≡ answersOf start (now (steps .entry)) (now (doors .entry)) (now (persons .entry)) (now (answers .entry)) (now (phases .entry)) (now (reasons .entry)) (now (held .entry)) ⌝ }
+    ensures phases { λ _. ⌜ now (phases .exit) ≡ phasesOf start (now (steps .entry)) (now (doors .entry)) (now (persons .entry)) (now (answers .entry)) (now (phases .entry)) (now (reasons .entry)) (now (held .entry)) ⌝ }
+    ensures reasons { λ _. ⌜ now (reasons .exit) ≡ reasonsOf start (now (steps .entry)) (now (doors .entry)) (now (persons .entry)) (now (answers .entry)) (now (phases .entry)) (now (reasons .entry)) (now (held .entry)) ⌝ }
+    ensures held { λ _. ⌜ now (held .exit) ≡ heldOf start (now (steps .entry)) (now (doors .entry)) (now (persons .entry)) (now (answers .entry)) (now (phases .entry)) (now (reasons .entry)) (now (held .entry)) ⌝ }
 {
-    if !held.is_sound() {
+    if !start.is_sound() {
         return Ran {
-            next: held,
+            next: start,
             answer: Answer::Unsound,
         };
     }
@@ -124,13 +133,14 @@ pub fn run<'a>(
         answers.len(),
         phases.len(),
         reasons.len(),
+        held.len(),
     ) {
         return Ran {
-            next: held,
+            next: start,
             answer: Answer::TooShort,
         };
     }
-    let next = run_rows(held, steps, doors, persons, answers, phases, reasons);
+    let next = run_rows(start, steps, doors, persons, answers, phases, reasons, held);
     Ran {
         next,
         answer: Answer::Done,

@@ -9,6 +9,9 @@ enum-told c = search needs
 enum-known-does : tie.Need-enum-known-does
 enum-known-does c = search needs
 
+held-with-requires : tie.Need-held-with-requires
+held-with-requires c κs = search needs
+
 enum-known-does-2 : tie.Need-enum-known-does-2
 enum-known-does-2 c = search needs
 
@@ -16,10 +19,10 @@ returns : tie.Need-returns
 returns c = rw (c .enum-told .given .1)
 
 returns-2 : tie.Need-returns-2
-returns-2 c = rw (c .before .does .given .1)
+returns-2 c = rw (c .before .before .does .given .1, c .held-with .ensures)
 
 returns-3 : tie.Need-returns-3
 returns-3 c = rw (c .before .does2 .given .1)
 
 pub deed-of-spec : {M : Type 1} → statement M
-deed-of-spec = tie.close (tie.spec enum-told enum-known-does enum-known-does-2 returns returns-2 returns-3)
+deed-of-spec = tie.close (tie.spec enum-told enum-known-does held-with-requires enum-known-does-2 returns returns-2 returns-3)

@@ -30,8 +30,8 @@ returns-3 c =
     λ locations exit.
     judged-barred _ _ _ _ _ _ _ _ _ (c .before .before .before .before .before .before .if1 .left) _ (c .before .before .before .before .before .exist .ensures) (c .before .before .before .before .if2 .left) _ _ (c .before .before .among .ensures) (c .before .allowed-in .ensures) (c .if3 .taken)
 
-cast-held : tie.Need-cast-held
-cast-held c = search needs
+cast-shown : tie.Need-cast-shown
+cast-shown c = search needs
 
 reason-for-requires : tie.Need-reason-for-requires
 reason-for-requires c κs = search needs
@@ -62,7 +62,7 @@ judge-spec =
     among-requires
     allowed-in-requires
     returns-3
-    cast-held
+    cast-shown
     reason-for-requires
     does-requires
     byte-at-requires

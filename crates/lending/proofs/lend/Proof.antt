@@ -84,7 +84,7 @@ sv = LL.val S.the-type S′.the-laws
 
 -- a record with what was told, and that it is a step's result
 abbrev with-told : Record → Told → Step
-with-told w t = record { next = w; answer = t .answer; phase = t .phase; reason = t .reason }
+with-told w t = record { next = w; answer = t .answer; phase = t .phase; reason = t .reason; held = t .held }
 
 step-is : (w : Record) (t : Told) (vs : List Val) → Is R.the-row w (rv w ∷ []) → Is O.the-row t vs → Is S.the-row (with-told w t) (sv (with-told w t) ∷ [])
 step-is w t vs w-is t-is = LL.owes S.the-type S′.the-laws (with-told w t) (w-is, LL.owed O.the-type O′.the-laws t vs t-is)
@@ -177,7 +177,7 @@ module _ {M : Type 1} (𝓤 : URA M) (H : Heap 𝓤) (A : Atoms 𝓤) (W : Given
         use1 W (given (Is R.the-row (ws .0) (rv (ws .0) ∷ [])) (‵ (fat fullShare R′.mir l₅ 0 (rv (ws .0))))) (lies-out 𝓤 H A W (ws .0) l₅) $ learn ! (λ w-is.
         -- [_5; true; true; room for _8; …; _7; …; _6; …; …; _4; …; _3; …; _2; …; _1; …; room for _0; …]
         assigns ! (of-opd ! (load ! (from ! (stop !)) (look ! 0 refl))) (from ! (stop !)) (init ! 3 refl (LL.lawful R.the-type R′.the-laws 𝓤 H A W .typed (ws .0) _ w-is .0)) $
-        assigns ! (agg ! (and-then ! (load ! (from ! (stop !)) (look ! 3 refl)) (and-then ! (load ! (from ! (fld ! refl (stop !))) (look-in ! 7 (sub ! 0 refl (whole !)))) (and-then ! (load ! (from ! (fld ! refl (stop !))) (look-in ! 7 (sub ! 1 refl (whole !)))) (and-then ! (load ! (from ! (fld ! refl (stop !))) (look-in ! 7 (sub ! 2 refl (whole !)))) (no-more !))))))
+        assigns ! (agg ! (and-then ! (load ! (from ! (stop !)) (look ! 3 refl)) (and-then ! (load ! (from ! (fld ! refl (stop !))) (look-in ! 7 (sub ! 0 refl (whole !)))) (and-then ! (load ! (from ! (fld ! refl (stop !))) (look-in ! 7 (sub ! 1 refl (whole !)))) (and-then ! (load ! (from ! (fld ! refl (stop !))) (look-in ! 7 (sub ! 2 refl (whole !)))) (and-then ! (load ! (from ! (fld ! refl (stop !))) (look-in ! 7 (sub ! 3 refl (whole !)))) (no-more !)))))))
         (from ! (stop !)) (init ! 18 refl (LL.lawful S.the-type S′.the-laws 𝓤 H A W .typed (with-told (ws .0) t) _ (step-is (ws .0) t _ w-is t-is) .0)) $
         returns ! (look ! 18 refl) $ forget ! 0 refl $ forget ! 3 refl $ forget ! 5 refl $ forget ! 7 refl $ forget ! 10 refl $ forget ! 12 refl $ forget ! 14 refl $ forget ! 16 refl $ forget ! 18 refl $
         move ! (18 ∷ 19 ∷ []) $ free1 ! $ move ! (16 ∷ 17 ∷ []) $ free1 ! $ move ! (14 ∷ 15 ∷ []) $ free1 ! $ move ! (12 ∷ 13 ∷ []) $ free1 ! $ move ! (10 ∷ 11 ∷ []) $ free1 ! $ move ! (0 ∷ 9 ∷ []) $ free1 ! $

@@ -24,5 +24,9 @@ returns-5 : tie.Need-returns-5
 unfolding roomFor
 returns-5 c = search test-chain depth 9
 
+returns-6 : tie.Need-returns-6
+unfolding roomFor
+returns-6 c = search test-chain depth 11
+
 pub room-for-spec : {M : Type 1} → statement M
-room-for-spec = tie.close (tie.spec returns returns-2 returns-3 returns-4 returns-5)
+room-for-spec = tie.close (tie.spec returns returns-2 returns-3 returns-4 returns-5 returns-6)

@@ -4,7 +4,7 @@ use mathlib.Core.Path.{_≡_, sym}
 use native.Mathlib.Omega.{arith}
 use lib.ListN.{length}
 use lib.Seq.{length-take-le}
-use Rattle.record.specs.Run.{answerTold, phaseTold, reasonTold}
+use Rattle.record.specs.Run.{answerTold, phaseTold, reasonTold, heldTold}
 use Rattle.steps_sheet.specs.Steps.{stepsFrom}
 use Rattle.steps_sheet.specs.Lent.{mostSteps}
 use Rattle.steps_sheet.proofs.Theorems.{few-counted}
@@ -91,6 +91,9 @@ same-length-2 c = search needs
 same-length-3 : tie.Need-same-length-3
 same-length-3 c = search needs
 
+same-length-4 : tie.Need-same-length-4
+same-length-4 c = search needs
+
 returns : tie.Need-returns
 returns c =
     let a = c .before .before .before .before .before .before .before .before .before .before .before .before .before .before .before .before .before .before .before .before .before .before .before .before .before .before .before .before .args in
@@ -110,16 +113,20 @@ returns c =
     let ha : length (steps .rows) ≤ length (a .answers .now) = omega (arith, p .1 .1 .0) in
     let hp : length (steps .rows) ≤ length (a .phases .now) = omega (arith, p .1 .1 .1) in
     let hr : length (steps .rows) ≤ length (a .reasons .now) = omega (arith, p .1 .1 .2) in
+    let hh : length (steps .rows) ≤ length (a .held .now) = omega (arith, p .1 .1 .3) in
     let e = c .before .before .before .before .before .before .before .run .ensures in
-    let next = ran-steps (a .fresh) steps (a .answers .now) (a .phases .now) (a .reasons .now) (p .0) ha hp hr lists (e .0) in (
+    let next = ran-steps (a .fresh) steps (a .answers .now) (a .phases .now) (a .reasons .now) (a .held .now) (p .0) ha hp hr hh lists (e .0) in (
       rw (next, count, whole),
       (
         few,
         (
-          told-steps (a .fresh) steps (a .answers .now) (a .phases .now) (a .reasons .now) (p .0) ha hp hr lists answerTold (a .answers .now) (e .1 .0),
+          told-steps (a .fresh) steps (a .answers .now) (a .phases .now) (a .reasons .now) (a .held .now) (p .0) ha hp hr hh lists answerTold (a .answers .now) (e .1 .0),
           (
-            told-steps (a .fresh) steps (a .answers .now) (a .phases .now) (a .reasons .now) (p .0) ha hp hr lists phaseTold (a .phases .now) (e .1 .1 .0),
-            told-steps (a .fresh) steps (a .answers .now) (a .phases .now) (a .reasons .now) (p .0) ha hp hr lists reasonTold (a .reasons .now) (e .1 .1 .1),
+            told-steps (a .fresh) steps (a .answers .now) (a .phases .now) (a .reasons .now) (a .held .now) (p .0) ha hp hr hh lists phaseTold (a .phases .now) (e .1 .1 .0),
+            (
+              told-steps (a .fresh) steps (a .answers .now) (a .phases .now) (a .reasons .now) (a .held .now) (p .0) ha hp hr hh lists reasonTold (a .reasons .now) (e .1 .1 .1 .0),
+              told-steps (a .fresh) steps (a .answers .now) (a .phases .now) (a .reasons .now) (a .held .now) (p .0) ha hp hr hh lists heldTold (a .held .now) (e .1 .1 .1 .1),
+            ),
           ),
         ),
       ),
@@ -146,4 +153,5 @@ serve-spec =
     same-length
     same-length-2
     same-length-3
+    same-length-4
     returns)

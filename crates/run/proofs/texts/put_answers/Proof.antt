@@ -8,10 +8,10 @@ use Rattle.run.proofs.texts.put_answers.Statement.{statement}
 use Rattle.run.proofs.texts.put_answers.Tie as tie
 
 abbrev Inv-loop : tie.InvT-loop
-Inv-loop answers phases reasons out₀ at next₀ i₀ out next i = Answering answers phases reasons out₀ at out next i
+Inv-loop answers phases reasons held out₀ at next₀ i₀ out next i = Answering answers phases reasons held out₀ at out next i
 
 abbrev μ-loop : tie.MeasureT-loop
-μ-loop answers phases reasons out₀ at next₀ i₀ out next i = length answers - i
+μ-loop answers phases reasons held out₀ at next₀ i₀ out next i = length answers - i
 
 loop-holds : tie.Need-loop-holds Inv-loop μ-loop
 loop-holds c = answer-start (omega arith) (omega arith)

@@ -151,7 +151,7 @@ module _ {M : Type 1} (𝓤 : URA M) (H : Heap 𝓤) (A : Atoms 𝓤) (W : Given
         land ! (from ! (stop !)) (init ! 7 refl (LL.lawful S.the-type S′.the-laws 𝓤 H A W .typed s _ is .0)) $ rewrite ! 7 (λ (u : Val). ‵ (fat fullShare S′.mir l₅ 0 u)) (ap only (LL.tells S.the-type S′.the-laws s (v ∷ []) is)) refl $
         -- [what the result owns; the record's cell; the open borrow; obs; auth; _6; …; _5; …; _4; …; _3; …; _2; …; _1; …; room for _0; …]
         assigns ! (of-opd ! (load ! (from ! (fld ! refl (stop !))) (look-in ! 7 (sub ! 0 refl (whole !))))) (from ! (hop ! (look ! 15 refl) (stop !))) (store ! 1 refl (LL.lawful R.the-type R′.the-laws 𝓤 H A W .typed (s .next) _ (next-is s _ is) .0)) $
-        assigns ! (agg ! (and-then ! (load ! (from ! (fld ! refl (stop !))) (look-in ! 7 (sub ! 1 refl (whole !)))) (and-then ! (load ! (from ! (fld ! refl (stop !))) (look-in ! 7 (sub ! 2 refl (whole !)))) (and-then ! (load ! (from ! (fld ! refl (stop !))) (look-in ! 7 (sub ! 3 refl (whole !)))) (no-more !)))))
+        assigns ! (agg ! (and-then ! (load ! (from ! (fld ! refl (stop !))) (look-in ! 7 (sub ! 1 refl (whole !)))) (and-then ! (load ! (from ! (fld ! refl (stop !))) (look-in ! 7 (sub ! 2 refl (whole !)))) (and-then ! (load ! (from ! (fld ! refl (stop !))) (look-in ! 7 (sub ! 3 refl (whole !)))) (and-then ! (load ! (from ! (fld ! refl (stop !))) (look-in ! 7 (sub ! 4 refl (whole !)))) (no-more !))))))
         (from ! (stop !)) (init ! 17 refl (LL.lawful O.the-type O′.the-laws 𝓤 H A W .typed (toldBy s) _ (told-is s _ is) .0)) $
         -- the borrow is closed at the next record
         drop ! $ use1 W (‵ (cellAt fullShare (R.the-row .mir) (rv (s .next) ∷ []) b o)) (W .laws .at-raw fullShare R′.mir b o (rv (s .next))) $
