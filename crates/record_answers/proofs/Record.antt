@@ -8,7 +8,7 @@ use native.Mathlib.Omega.{arith}
 use borrow.Author.Tests.{ltb-true, lt-ltb, le-leb, leb-true}
 use lib.ListN.{length, getD, replicate}
 use lib.Seq.{sets}
-use lib.Dec.{eqb, ltb, leb}
+use lib.Dec.{ltb, leb}
 use Rattle.tables.specs.Tables.{orElse, andAlso, mostDoors}
 use Rattle.tables.specs.Below.{Tells}
 use Rattle.findings.specs.declared.Found.{Found}
@@ -17,25 +17,23 @@ use Rattle.tables.specs.Way.{wayOf, ifRoom, wayToldIn, wayWrittenIn}
 use Rattle.tables.proofs.Laws.{and-left, and-right, and-both, clash, tell-le, tell-and, tell-as}
 use Rattle.record.specs.declared.record.Record.{Record}
 use Rattle.phases.specs.declared.table.Kind.{Kind}
-use Rattle.phases.specs.declared.table.Kind.the-variants.{Card, Decide, Green, Red, Walk, Tick, Passed, Lapsed, Dark, Ack, Unknown}
+use Rattle.phases.specs.declared.table.Kind.the-variants.{Card, Decide, Green, Red, Walk, Tick, Passed, Lapsed, Dark, Ack}
 use Rattle.door.specs.declared.Door.{Door}
 use Rattle.phases.specs.declared.answer.Answer.{Answer}
 use Rattle.phases.specs.declared.answer.Answer.the-variants.{Done, NoSuch, NotAllowed, TooShort, Unsound}
-use Rattle.phases.specs.Answers.{answerNo}
+use Rattle.phases.specs.Answers.{answerNo, reasonNone, reasonBusy}
 use Rattle.asked_place.specs.{placeTold, placeNo}
 use Rattle.asked_grant.specs.{grantTold, grantNo}
 use Rattle.asked_way.specs.{lengthTold, wayNo}
-use Rattle.phases.specs.Phase.{green, denied, red}
 use Rattle.record.specs.Doors.{doorOf, Shaped}
 use Rattle.granting.specs.Grants.{grantOf}
 use Rattle.phases.specs.Kinds.{StepRow, kindOf, allows, namesPerson}
 use Rattle.record.specs.SoundTest.{soundB}
 use Rattle.door_does.specs.declared.Does.{Does}
 use Rattle.door_does.specs.declared.Does.the-variants.{Stays, Turns, Moves}
-use Rattle.door_does.specs.Does.{effect}
 use Rattle.deeds.specs.Deeds.{existAmong}
 use Rattle.record.specs.declared.steps.Step.{Step}
-use Rattle.record.specs.Steps.{reasonFor, HeldDoor, no-door, act, refused, doing, exist, soundStep, stepOf, toldBy}
+use Rattle.record.specs.Steps.{reasonFor, no-door, act, refused, doing, exist, soundStep, stepOf, toldBy}
 use Rattle.deeds.specs.declared.Told.{Told}
 use Rattle.record.specs.Deeds.{telling}
 use Rattle.record.specs.Run.{Reply, lastOf, repliesOf, answerTold, phaseTold, reasonTold, heldTold, rowsOf, roomFor, roomIn, ranOf, runOf, tellingOf}
@@ -103,7 +101,7 @@ module _ (r : Record) (k : Kind) (d p : ℕ) where
         no-reason = λ _. refl;
         a-reason = λ reason. absurd (reason refl);
         no-held = λ _. refl;
-        a-held = λ _. no-door (λ z. omega arith);
+        a-held = λ _. no-door (λ (z : reasonNone ≡ reasonBusy). omega arith);
       }
 
   done-tells : NumberBy (stepOrder r k d p) 0 → soundB r ≡ true → d < r .doors → StepTells r k d p (act r d (doing r k d p))

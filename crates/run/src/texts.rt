@@ -128,7 +128,15 @@ fn print_steps<'a>(fresh: Record, s: &'a [u8], from: usize, out: &'a mut [u8]) -
     let mut phases = blank_bytes();
     let mut reasons = blank_bytes();
     let mut held = blank_doors();
-    let served = serve(fresh, s, from, &mut answers, &mut phases, &mut reasons, &mut held);
+    let served = serve(
+        fresh,
+        s,
+        from,
+        &mut answers,
+        &mut phases,
+        &mut reasons,
+        &mut held,
+    );
     let count = served.count;
     print_run(
         &answers[..count],
@@ -210,7 +218,15 @@ fn record_after(fresh: Record, s: &[u8], from: usize) -> Record
     let mut phases = blank_bytes();
     let mut reasons = blank_bytes();
     let mut held = blank_doors();
-    let served = serve(fresh, s, from, &mut answers, &mut phases, &mut reasons, &mut held);
+    let served = serve(
+        fresh,
+        s,
+        from,
+        &mut answers,
+        &mut phases,
+        &mut reasons,
+        &mut held,
+    );
     served.next
 }
 

@@ -23,16 +23,17 @@ fn no_cards() -> [u16; MOST_DOORS]
     [0; MOST_DOORS]
 }
 
-// The frame of a decision: a grant where the door is granted, else a denial with its reason.
+// The frame of a decision: a grant where the door is granted, else a denial with its reason and the door told with it.
 fn put_decided<'a>(
     out: &'a mut [u8],
     at: usize,
     phase: u8,
     reason: u8,
+    held: usize,
     door: usize,
     person: usize,
 ) -> usize
-    ensures { λ r. ⌜ Wrote (now (out .entry)) at (framedOf (decidedEvent phase reason door person)) (now (out .exit)) r ⌝ }
+    ensures { λ r. ⌜ Wrote (now (out .entry)) at (framedOf (decidedEvent phase reason held door person)) (now (out .exit)) r ⌝ }
 {
     if phase == Phase::GRANTED {
         let grant = LineEvent {
@@ -40,6 +41,7 @@ fn put_decided<'a>(
             door,
             person,
             reason: 0,
+            held: 0,
         };
         return put_frame(out, at, grant);
     }
@@ -48,6 +50,7 @@ fn put_decided<'a>(
         door,
         person,
         reason: reason as usize,
+        held,
     };
     put_frame(out, at, denial)
 }
@@ -60,22 +63,24 @@ fn put_told<'a>(
     answer: u8,
     phase: u8,
     reason: u8,
+    held: usize,
     door: usize,
     person: usize,
 ) -> usize
-    ensures { λ r. ⌜ Wrote (now (out .entry)) at (toldText kind answer phase reason door person) (now (out .exit)) r ⌝ }
+    ensures { λ r. ⌜ Wrote (now (out .entry)) at (toldText kind answer phase reason held door person) (now (out .exit)) r ⌝ }
 {
     if answer != Paper::DONE {
         return at;
     }
     match kind {
-        Kind::Decide => put_decided(out, at, phase, reason, door, person),
+        Kind::Decide => put_decided(out, at, phase, reason, held, door, person),
         Kind::Passed => {
             let passage = LineEvent {
                 msgid: Msgid::Pass,
                 door,
                 person,
                 reason: 0,
+                held: 0,
             };
             put_frame(out, at, passage)
         }
@@ -85,6 +90,7 @@ fn put_told<'a>(
                 door,
                 person,
                 reason: 0,
+                held: 0,
             };
             put_frame(out, at, lapse)
         }
@@ -114,10 +120,11 @@ pub(crate) fn put_events<'a>(
     answers: &'a [u8],
     phases: &'a [u8],
     reasons: &'a [u8],
+    held: &'a [usize],
     out: &'a mut [u8],
 ) -> usize
-    requires { ⌜ Heard (now kinds) (now doors) (now persons) (now answers) (now phases) (now reasons) ⌝ }
-    ensures { λ r. ⌜ Wrote (now (out .entry)) 0 (streamFrom (now (kinds .entry)) (now (doors .entry)) (now (persons .entry)) (now (answers .entry)) (now (phases .entry)) (now (reasons .entry))) (now (out .exit)) r ⌝ }
+    requires { ⌜ Heard (now kinds) (now doors) (now persons) (now answers) (now phases) (now reasons) (now held) ⌝ }
+    ensures { λ r. ⌜ Wrote (now (out .entry)) 0 (streamFrom (now (kinds .entry)) (now (doors .entry)) (now (persons .entry)) (now (answers .entry)) (now (phases .entry)) (now (reasons .entry)) (now (held .entry))) (now (out .exit)) r ⌝ }
 {
     let mut cards = no_cards();
     let mut next = 0;
@@ -129,7 +136,17 @@ pub(crate) fn put_events<'a>(
         let card = word_at(&cards, door);
         let phase = byte_at(phases, i);
         let reason = byte_at(reasons, i);
-        next = put_told(out, next, kind, answer, phase, reason, door, card as usize);
+        next = put_told(
+            out,
+            next,
+            kind,
+            answer,
+            phase,
+            reason,
+            held[i],
+            door,
+            card as usize,
+        );
         let holds = card_after(kind, answer, word_at(persons, i), card);
         put_word(&mut cards, door, holds);
         i += 1;

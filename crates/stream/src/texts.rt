@@ -13,6 +13,7 @@ ghost use Rattle.syslog.specs.Line.{streamOf};
 ghost use Rattle.stream_text.specs.Stream.{lineEventsIn, stepsEvents, eventsText};
 ghost use Rattle.stream_text.specs.Rows.{Heard, streamFrom};
 use crate::blank::blank_bytes;
+use crate::blank::blank_doors;
 use crate::blank::blank_numbers;
 use crate::rows::put_events;
 use findings::Printed;
@@ -31,10 +32,11 @@ fn print_events<'a>(
     answers: &'a [u8],
     phases: &'a [u8],
     reasons: &'a [u8],
+    held: &'a [usize],
     out: &'a mut [u8],
 ) -> Printed
-    requires { ⌜ Heard (now kinds) (now doors) (now persons) (now answers) (now phases) (now reasons) ⌝ }
-    ensures { λ r. ⌜ Prints (streamFrom (now (kinds .entry)) (now (doors .entry)) (now (persons .entry)) (now (answers .entry)) (now (phases .entry)) (now (reasons .entry))) (now (out .entry)) r (now (out .exit)) ⌝ }
+    requires { ⌜ Heard (now kinds) (now doors) (now persons) (now answers) (now phases) (now reasons) (now held) ⌝ }
+    ensures { λ r. ⌜ Prints (streamFrom (now (kinds .entry)) (now (doors .entry)) (now (persons .entry)) (now (answers .entry)) (now (phases .entry)) (now (reasons .entry)) (now (held .entry))) (now (out .entry)) r (now (out .exit)) ⌝ }
 {
     let length = put_events(
         kinds,
@@ -43,12 +45,13 @@ fn print_events<'a>(
         answers,
         phases,
         reasons,
+        held,
         &mut out[..0],
     );
     if out.len() < length {
         return Printed::TooShort;
     }
-    Printed::Text(put_events(kinds, doors, persons, answers, phases, reasons, out))
+    Printed::Text(put_events(kinds, doors, persons, answers, phases, reasons, held, out))
 }
 
 // Runs the steps of three lists from a record and prints their events.
@@ -66,6 +69,7 @@ fn print_run<'a>(
     let mut answers = blank_bytes();
     let mut phases = blank_bytes();
     let mut reasons = blank_bytes();
+    let mut held = blank_doors();
     let _ran = step_list::run(
         fresh,
         kinds,
@@ -74,6 +78,7 @@ fn print_run<'a>(
         &mut answers,
         &mut phases,
         &mut reasons,
+        &mut held,
     );
     let count = kinds.len();
     print_events(
@@ -83,6 +88,7 @@ fn print_run<'a>(
         &answers[..count],
         &phases[..count],
         &reasons[..count],
+        &held[..count],
         out,
     )
 }

@@ -32,7 +32,7 @@ collects destination place (e ∷ es) = go (λ p. collects destination p es) (e 
     go : ((p : List ℕ) → collected destination p (map lineEvent es) ≡ placesBy destination p (recorded es)) → (w : What) → e .what ≡ w
         → collected destination place (map lineEvent (e ∷ es)) ≡ placesBy destination place (recorded (e ∷ es))
     go on Grant is = rw is (on place)
-    go on (Denial why) is = rw is (on place)
+    go on (Denial why held) is = rw is (on place)
     go on Passage is = rw is (on (set place (e .person) (getD destination (e .at) 0)))
     go on Lapse is = rw is (on place)
 

@@ -10,7 +10,7 @@ use Rattle.phases.specs.Phase.{grants}
 use Rattle.phases.specs.Kinds.{StepRow, allows}
 use Rattle.door_does.specs.Does.{effect}
 use Rattle.granting.specs.Grants.{grantsTo, grantOf, hasGrant}
-use Rattle.granting.specs.Reasons.{firstReason}
+use Rattle.granting.specs.Reasons.{firstReason, heldWith}
 use Rattle.deeds.specs.Deeds.{existAmong}
 use Rattle.record.specs.Steps.{act, soundStep}
 use Rattle.record.specs.Run.{Reply}
@@ -39,7 +39,7 @@ ran s e f =
     sym (stream-is siteSheet s (sym (sites .0)) refl refl e) ∙ (ap (λ (x : Steps). streamOf (lineEventsIn site-of-01 (x .rows))) f ∙ sound-stream _)
 
 streams : (soundStream (stepsOf01 .rows) ≡ grantFrame 0 0 (denyFrame 1 0 1 (passFrame 0 0 []))) × (soundStream (oneCard .rows) ≡ [])
-unfolding soundStream soundReplies stepsOf01 oneCard soundStep firstReason effect act existAmong allows hasGrant grantOf leastBelow orAt grantsTo grants mayBe andAlso orElse zeros linesOf meaningBy meaningOf spellBy spellsAfter eventBy eventsOf lineEvent lineOf framedOf streamOf decimal digits
+unfolding soundStream soundReplies stepsOf01 oneCard soundStep firstReason heldWith effect act existAmong allows hasGrant grantOf leastBelow orAt grantsTo grants mayBe andAlso orElse zeros linesOf meaningBy meaningOf spellBy spellsAfter eventBy eventsOf lineEvent lineOf framedOf streamOf decimal digits
 streams = (refl, refl)
 
 pub stream-examples : StreamExamples

@@ -1,4 +1,4 @@
--- Every event of a run has a line: the door exists, the person is one of the site's, and the reason fits. Assumes nothing.
+-- Every event of a run has a line: the door exists, the person is one of the site's, and the reason and the held door fit. Assumes nothing.
 use Prim.Native.Nat.{ℕ, _+_, _≤_, _<_}
 use mathlib.Core.Path.{_≡_, refl, sym, ap, subst, _∙_}
 use mathlib.Core.Bool.{Bool, true, false, cond}
@@ -15,13 +15,14 @@ use Rattle.phases.specs.declared.table.Kind.{Kind}
 use Rattle.phases.specs.declared.table.Kind.the-variants.{Card, Decide, Green, Red, Walk, Tick, Passed, Lapsed, Dark, Ack, Unknown}
 use Rattle.phases.specs.Phase.{keeps}
 use Rattle.phases.specs.Kinds.{StepRow}
+use Rattle.phases.specs.Answers.{reasonNone, reasonBusy}
 use Rattle.record.specs.declared.record.Record.{Record}
 use Rattle.record.specs.declared.steps.Step.{Step}
 use Rattle.record.specs.Doors.{planOf, doorOf, Shaped}
 use Rattle.record.specs.Sound.{Sound}
-use Rattle.record.specs.Steps.{First, none, away, barred, busy, reasonFor, doing}
+use Rattle.record.specs.Steps.{First, none, away, barred, busy, HeldDoor, the-grant, no-door, reasonFor, heldFor, doing}
 use Rattle.record.specs.Run.{rowOf}
-use Rattle.record.proofs.Right.{reason-first}
+use Rattle.record.proofs.Right.{reason-first, held-first}
 use Rattle.record.proofs.Fresh.{fresh-free}
 use Rattle.record.proofs.Laws.{step-cases, act-done, sound-stays, shaped-stays, plan-stays}
 use Rattle.site_sheet.specs.Site.{siteOf, verdictNo}
@@ -35,8 +36,8 @@ use Rattle.run_events.proofs.Steps.{not-done}
 use Rattle.run_events.proofs.Theorems.{all-seen, fresh-agree}
 use Rattle.card_by_card.specs.Served.{Fresh}
 use Rattle.run_text.proofs.Sheets.{zero-accepted}
-use Rattle.syslog.specs.Line.{mostNumber, ReasonFits, Fits, AllFit, no-more, fits}
-use Rattle.stream_text.specs.Stream.{msgidOf, reasonOf, lineEvent, lineEventsIn, stepsEvents, sheetEvents}
+use Rattle.syslog.specs.Line.{mostNumber, ReasonFits, HeldFits, Fits, AllFit, no-more, fits}
+use Rattle.stream_text.specs.Stream.{msgidOf, reasonOf, heldBy, lineEvent, lineEventsIn, stepsEvents, sheetEvents}
 use Rattle.stream_text.proofs.Accepted.{accepted-fresh}
 use Rattle.stream_text.proofs.Sheets.{lines-are, long-none, wrong-none}
 
@@ -48,21 +49,30 @@ reason-small (away _) = omega arith
 reason-small (barred _ _) = omega arith
 reason-small (busy _ _ _ _) = omega arith
 
-module _ (n d p why : ℕ) (hd : d ≤ mostNumber) (hp : p ≤ mostNumber) (hw : why ≤ 3) where
-  one-fits : (w : What) → ReasonFits (msgidOf w) (reasonOf w) → Fits (lineEvent (event n d p w))
+-- the door told with a reason is one of the site's, and 0 with any but reason 3
+held-fits : {r : Record} {p why held : ℕ} → Sound r → HeldDoor r p why held → HeldFits why held
+held-fits s (the-grant g only) = (λ _. let h = g .exists in let most = s .tables .in-range .doors-to in omega arith, λ other. absurd (other refl))
+held-fits s (no-door other) = (λ is. absurd (other is), λ _. refl)
+
+-- no reason, and so no door
+none-held : HeldFits 0 0
+none-held = (λ (z : reasonNone ≡ reasonBusy). omega arith, λ _. refl)
+
+module _ (n d p why held : ℕ) (hd : d ≤ mostNumber) (hp : p ≤ mostNumber) (hw : why ≤ 3) (hh : HeldFits why held) where
+  one-fits : (w : What) → ReasonFits (msgidOf w) (reasonOf w) → HeldFits (reasonOf w) (heldBy w) → Fits (lineEvent (event n d p w))
   unfolding lineEvent
-  one-fits w h = record { door = omega arith; person = omega arith; reason = h }
+  one-fits w r h = record { door = omega arith; person = omega arith; reason = r; held = h }
 
   -- what a step that is done does to the card at its door
-  what-fits : (k : Kind) → AllFit (map lineEvent (map (event n d p) (whatBy k why)))
+  what-fits : (k : Kind) → AllFit (map lineEvent (map (event n d p) (whatBy k why held)))
   unfolding whatBy
   what-fits Decide = go (eqb why 0) refl
     where
-      go : (t : Bool) → eqb why 0 ≡ t → AllFit (map lineEvent (map (event n d p) (cond t Grant (Denial why) ∷ [])))
-      go true e = fits (one-fits Grant refl) no-more
-      go false e = let ne = eqb-false why 0 e in fits (one-fits (Denial why) (omega arith, omega arith)) no-more
-  what-fits Passed = fits (one-fits Passage refl) no-more
-  what-fits Lapsed = fits (one-fits Lapse refl) no-more
+      go : (t : Bool) → eqb why 0 ≡ t → AllFit (map lineEvent (map (event n d p) (cond t Grant (Denial why held) ∷ [])))
+      go true e = fits (one-fits Grant refl none-held) no-more
+      go false e = let ne = eqb-false why 0 e in fits (one-fits (Denial why held) (omega arith, omega arith) hh) no-more
+  what-fits Passed = fits (one-fits Passage refl none-held) no-more
+  what-fits Lapsed = fits (one-fits Lapse refl none-held) no-more
   what-fits Card = no-more
   what-fits Green = no-more
   what-fits Red = no-more
@@ -87,9 +97,12 @@ seen-fits r s few n row =
     (λ w.
     let most = s .tables .in-range .doors-to in
     let a-door = w .a-door in
+    let person = getD (r .holder) (row .at) 0 in
+    let why = reasonFor r (row .at) person in
+    let first = reason-first r (row .at) person in
     rw (act-done r (row .at) (doing r (row .kind) (row .at) (row .person)))
-    (what-fits n (row .at) (getD (r .holder) (row .at) 0) (reasonFor r (row .at) (getD (r .holder) (row .at) 0)) (omega arith)
-    (holder-small r s few (row .at) a-door) (reason-small (reason-first r (row .at) (getD (r .holder) (row .at) 0))) (row .kind)))
+    (what-fits n (row .at) person why (heldFor r person why) (omega arith) (holder-small r s few (row .at) a-door) (reason-small first)
+    (held-fits s (held-first r s (row .at) person why first)) (row .kind)))
 
 -- ---- a run
 

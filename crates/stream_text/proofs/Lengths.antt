@@ -74,7 +74,7 @@ sheets-few site steps =
 
 -- ---- and how long their frames are
 
-stream-short : {es : List LineEvent} → AllFit es → length (streamOf es) ≤ 50 * length es
+stream-short : {es : List LineEvent} → AllFit es → length (streamOf es) ≤ 58 * length es
 unfolding streamOf
 stream-short no-more = omega arith
 stream-short (fits {e} {es} f on) =

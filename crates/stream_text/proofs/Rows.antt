@@ -36,23 +36,23 @@ use Rattle.stream_text.specs.Rows.{lineWith, linesFrom, streamFrom, Hear
 
 -- an event in the words of a line
 abbrev pub lineWords : Msgid → ℕ → ℕ → ℕ → LineEvent
-lineWords id d p reason = record { msgid = id; door = d; person = p; reason = reason }
+lineWords id d p reason held = record { msgid = id; door = d; person = p; reason = reason; held = held }
 
 -- where there is nothing to write
 pub nothing-written : (text : List ℕ) {out : List ℕ} {at : ℕ} → text ≡ [] → length out ≤ lastPlace → at ≤ lastPlace → Wrote out at text out at
 nothing-written text e f t = said (sym e) (ended (begun f t) refl)
 
-module _ (kind : Kind) (answer phase reason d p : ℕ) where
-  pub told-refused : (answer ≡ 0 → ⊥) → toldText kind answer phase reason d p ≡ []
+module _ (kind : Kind) (answer phase reason held d p : ℕ) where
+  pub told-refused : (answer ≡ 0 → ⊥) → toldText kind answer phase reason held d p ≡ []
   unfolding toldText meaningOf eventBy streamOf
   told-refused ne = rw (ne-eqb answer 0 ne)
 
-  pub told-nothing : (kind ≡ Decide → ⊥) → (kind ≡ Passed → ⊥) → (kind ≡ Lapsed → ⊥) → answer ≡ 0 → toldText kind answer phase reason d p ≡ []
+  pub told-nothing : (kind ≡ Decide → ⊥) → (kind ≡ Passed → ⊥) → (kind ≡ Lapsed → ⊥) → answer ≡ 0 → toldText kind answer phase reason held d p ≡ []
   unfolding toldText meaningOf meaningBy eventBy streamOf
   told-nothing no-decide no-passed no-lapsed e = rw e (go kind no-decide no-passed no-lapsed)
     where
       go : (k : Kind) → (k ≡ Decide → ⊥) → (k ≡ Passed → ⊥) → (k ≡ Lapsed → ⊥)
-          → streamOf (map lineEvent (eventBy (meaningBy k (record { answer = 0; phase = phase; reason = reason })) 0 d p)) ≡ []
+          → streamOf (map lineEvent (eventBy (meaningBy k (record { answer = 0; phase = phase; reason = reason; held = held })) 0 d p)) ≡ []
       go Card a b c = refl
       go Decide a b c = absurd (a refl)
       go Green a b c = refl
@@ -65,24 +65,24 @@ module _ (kind : Kind) (answer phase reason d p : ℕ) where
       go Ack a b c = refl
       go Unknown a b c = refl
 
-  pub told-decided : kind ≡ Decide → answer ≡ 0 → framedOf (decidedEvent phase reason d p) ≡ toldText kind answer phase reason d p
+  pub told-decided : kind ≡ Decide → answer ≡ 0 → framedOf (decidedEvent phase reason held d p) ≡ toldText kind answer phase reason held d p
   unfolding toldText meaningOf meaningBy eventBy streamOf
-  told-decided k e = rw (k, e, append-nil (framedOf (decidedEvent phase reason d p)))
+  told-decided k e = rw (k, e, append-nil (framedOf (decidedEvent phase reason held d p)))
 
-  pub told-passed : kind ≡ Passed → answer ≡ 0 → framedOf (lineWords msgid.Pass d p 0) ≡ toldText kind answer phase reason d p
+  pub told-passed : kind ≡ Passed → answer ≡ 0 → framedOf (lineWords msgid.Pass d p 0 0) ≡ toldText kind answer phase reason held d p
   unfolding toldText meaningOf meaningBy eventBy streamOf lineEvent
-  told-passed k e = rw (k, e, append-nil (framedOf (lineWords msgid.Pass d p 0)))
+  told-passed k e = rw (k, e, append-nil (framedOf (lineWords msgid.Pass d p 0 0)))
 
-  pub told-lapsed : kind ≡ Lapsed → answer ≡ 0 → framedOf (lineWords msgid.Lapse d p 0) ≡ toldText kind answer phase reason d p
+  pub told-lapsed : kind ≡ Lapsed → answer ≡ 0 → framedOf (lineWords msgid.Lapse d p 0 0) ≡ toldText kind answer phase reason held d p
   unfolding toldText meaningOf meaningBy eventBy streamOf lineEvent
-  told-lapsed k e = rw (k, e, append-nil (framedOf (lineWords msgid.Lapse d p 0)))
+  told-lapsed k e = rw (k, e, append-nil (framedOf (lineWords msgid.Lapse d p 0 0)))
 
-module _ (phase reason d p : ℕ) where
-  pub decided-granted : phase ≡ granted → lineWords msgid.Grant d p 0 ≡ decidedEvent phase reason d p
+module _ (phase reason held d p : ℕ) where
+  pub decided-granted : phase ≡ granted → lineWords msgid.Grant d p 0 0 ≡ decidedEvent phase reason held d p
   unfolding lineEvent
   decided-granted e = rw (eq-eqb phase granted e)
 
-  pub decided-denied : (phase ≡ granted → ⊥) → lineWords msgid.Deny d p reason ≡ decidedEvent phase reason d p
+  pub decided-denied : (phase ≡ granted → ⊥) → lineWords msgid.Deny d p reason held ≡ decidedEvent phase reason held d p
   unfolding lineEvent
   decided-denied ne = rw (ne-eqb phase granted ne)
 
@@ -162,13 +162,13 @@ stream-both (e ∷ es) fs =
     ap (λ (t : List ℕ). framedOf (lineEvent e) ++ t) (stream-both es fs)
     ∙ sym (append-assoc (framedOf (lineEvent e)) (streamOf (map lineEvent es)) (streamOf (map lineEvent fs)))
 
-module _ {kinds doors persons answers phases reasons : List ℕ} (heard : Heard kinds doors persons answers phases reasons) (i : ℕ) (inside : i < length kinds) where
+module _ {kinds doors persons answers phases reasons held : List ℕ} (heard : Heard kinds doors persons answers phases reasons held) (i : ℕ) (inside : i < length kinds) where
   -- the line of row i
   abbrev lineAt : Line
-  lineAt = lineWith (kindOf (getD kinds i 0)) (getD doors i 0) (getD persons i 0) (getD answers i 0) (getD phases i 0) (getD reasons i 0)
+  lineAt = lineWith (kindOf (getD kinds i 0)) (getD doors i 0) (getD persons i 0) (getD answers i 0) (getD phases i 0) (getD reasons i 0) (getD held i 0)
 
-  lines-cons : linesFrom (drop i kinds) (drop i doors) (drop i persons) (drop i answers) (drop i phases) (drop i reasons)
-      ≡ lineAt ∷ linesFrom (drop (i + 1) kinds) (drop (i + 1) doors) (drop (i + 1) persons) (drop (i + 1) answers) (drop (i + 1) phases) (drop (i + 1) reasons)
+  lines-cons : linesFrom (drop i kinds) (drop i doors) (drop i persons) (drop i answers) (drop i phases) (drop i reasons) (drop i held)
+      ≡ lineAt ∷ linesFrom (drop (i + 1) kinds) (drop (i + 1) doors) (drop (i + 1) persons) (drop (i + 1) answers) (drop (i + 1) phases) (drop (i + 1) reasons) (drop (i + 1) held)
   unfolding rowsOf repliesFrom linesOf
   lines-cons =
       let hd : i < length doors = rw (heard .doors-long) inside in
@@ -176,15 +176,16 @@ module _ {kinds doors persons answers phases reasons : List ℕ} (heard : Heard 
       let ha : i < length answers = rw (heard .answers-long) inside in
       let hf : i < length phases = rw (heard .phases-long) inside in
       let hr : i < length reasons = rw (heard .reasons-long) inside in
-      rw (add-one i, drop-cons kinds i 0 inside, drop-cons doors i 0 hd, drop-cons persons i 0 hp, drop-cons answers i 0 ha, drop-cons phases i 0 hf, drop-cons reasons i 0 hr)
+      let hh : i < length held = rw (heard .held-long) inside in
+      rw (add-one i, drop-cons kinds i 0 inside, drop-cons doors i 0 hd, drop-cons persons i 0 hp, drop-cons answers i 0 ha, drop-cons phases i 0 hf, drop-cons reasons i 0 hr, drop-cons held i 0 hh)
 
   abbrev restFrom : (ℕ → Spell) → List ℕ
-  restFrom spells = streamOf (map lineEvent (eventsOf spells (i + 1 + 1) (linesFrom (drop (i + 1) kinds) (drop (i + 1) doors) (drop (i + 1) persons) (drop (i + 1) answers) (drop (i + 1) phases) (drop (i + 1) reasons))))
+  restFrom spells = streamOf (map lineEvent (eventsOf spells (i + 1 + 1) (linesFrom (drop (i + 1) kinds) (drop (i + 1) doors) (drop (i + 1) persons) (drop (i + 1) answers) (drop (i + 1) phases) (drop (i + 1) reasons) (drop (i + 1) held))))
 
   -- it writes what its step writes with the person whom the list has
   line-writes : (spells : ℕ → Spell) (cards : List ℕ) → Cards spells cards
       → streamOf (map lineEvent (eventBy (meaningOf lineAt) (i + 1) (getD doors i 0) (spells (getD doors i 0) .person)))
-      ≡ toldText (kindOf (getD kinds i 0)) (getD answers i 0) (getD phases i 0) (getD reasons i 0) (getD doors i 0) (getD cards (getD doors i 0) 0)
+      ≡ toldText (kindOf (getD kinds i 0)) (getD answers i 0) (getD phases i 0) (getD reasons i 0) (getD held i 0) (getD doors i 0) (getD cards (getD doors i 0) 0)
   unfolding toldText meaningOf eventBy streamOf
   line-writes spells cards held =
       ap streamOf (any-row (meaningOf lineAt) (i + 1) (getD doors i 0) (spells (getD doors i 0) .person)) ∙ go (eqb (getD answers i 0) 0) refl
@@ -196,15 +197,15 @@ module _ {kinds doors persons answers phases reasons : List ℕ} (heard : Heard 
       go false e = rw e
 
 -- the loop has come to row i; the list has the person of each door's card
-pub record Eventing (kinds doors persons answers phases reasons before out cards : List ℕ) (next i : ℕ) : Type 0 where
+pub record Eventing (kinds doors persons answers phases reasons held before out cards : List ℕ) (next i : ℕ) : Type 0 where
   pub spells : ℕ → Spell
   pub held : (d : ℕ) → d < mostDoors → spells d .person ≡ getD cards d 0
   pub long : length cards ≡ mostDoors
   pub low : i ≤ length kinds
-  pub pending : Pending before 0 (streamFrom kinds doors persons answers phases reasons) out next (streamOf (map lineEvent (eventsOf spells (i + 1) (linesFrom (drop i kinds) (drop i doors) (drop i persons) (drop i answers) (drop i phases) (drop i reasons)))))
+  pub pending : Pending before 0 (streamFrom kinds doors persons answers phases reasons held) out next (streamOf (map lineEvent (eventsOf spells (i + 1) (linesFrom (drop i kinds) (drop i doors) (drop i persons) (drop i answers) (drop i phases) (drop i reasons) (drop i held)))))
 
-pub events-start : {kinds doors persons answers phases reasons before cards : List ℕ} → cards ≡ replicate mostDoors 0 → length before ≤ lastPlace
-    → Eventing kinds doors persons answers phases reasons before before cards 0 0
+pub events-start : {kinds doors persons answers phases reasons held before cards : List ℕ} → cards ≡ replicate mostDoors 0 → length before ≤ lastPlace
+    → Eventing kinds doors persons answers phases reasons held before before cards 0 0
 unfolding zeros
 events-start e f =
     record {
@@ -215,14 +216,14 @@ events-start e f =
       pending = begun f (omega arith);
     }
 
-pub events-more : {kinds doors persons answers phases reasons before out cards : List ℕ} {next i : ℕ} {kind : Kind} {answer phase reason d card p new : ℕ} {after cards′ : List ℕ} {seam : ℕ}
-    → Eventing kinds doors persons answers phases reasons before out cards next i → Heard kinds doors persons answers phases reasons → i < length kinds
-    → kind ≡ kindOf (getD kinds i 0) → answer ≡ getD answers i 0 → phase ≡ getD phases i 0 → reason ≡ getD reasons i 0 → d ≡ getD doors i 0
-    → p ≡ getD persons i 0 → card ≡ getD cards d 0 → Wrote out next (toldText kind answer phase reason d card) after seam
+pub events-more : {kinds doors persons answers phases reasons held before out cards : List ℕ} {next i : ℕ} {kind : Kind} {answer phase reason door d card p new : ℕ} {after cards′ : List ℕ} {seam : ℕ}
+    → Eventing kinds doors persons answers phases reasons held before out cards next i → Heard kinds doors persons answers phases reasons held → i < length kinds
+    → kind ≡ kindOf (getD kinds i 0) → answer ≡ getD answers i 0 → phase ≡ getD phases i 0 → reason ≡ getD reasons i 0 → door ≡ getD held i 0 → d ≡ getD doors i 0
+    → p ≡ getD persons i 0 → card ≡ getD cards d 0 → Wrote out next (toldText kind answer phase reason door d card) after seam
     → new ≡ cardAfter kind answer p card → cards′ ≡ set cards d new
-    → Eventing kinds doors persons answers phases reasons before after cards′ seam (i + 1)
+    → Eventing kinds doors persons answers phases reasons held before after cards′ seam (i + 1)
 unfolding eventsOf
-events-more {kinds} {doors} {persons} {answers} {phases} {reasons} {cards = cards} {i = i} {cards′ = cards′} here heard inside k a ph why at person was w now put =
+events-more {kinds} {doors} {persons} {answers} {phases} {reasons} {held} {cards = cards} {i = i} {cards′ = cards′} here heard inside k a ph why h at person was w now put =
     let line = lineAt heard i inside in
     let is : cards′ ≡ set cards (getD doors i 0) (cardAfter (kindOf (getD kinds i 0)) (getD answers i 0) (getD persons i 0) (getD cards (getD doors i 0) 0)) = rw (put, now, was, k, a, at, person) in
     record {
@@ -238,8 +239,8 @@ events-more {kinds} {doors} {persons} {answers} {phases} {reasons} {cards = card
           (rw (was, k, a, ph, why, at) at w);
     }
 
-pub events-end : {kinds doors persons answers phases reasons before out cards : List ℕ} {next i : ℕ}
-    → Eventing kinds doors persons answers phases reasons before out cards next i → length kinds ≤ i
-    → Wrote before 0 (streamFrom kinds doors persons answers phases reasons) out next
+pub events-end : {kinds doors persons answers phases reasons held before out cards : List ℕ} {next i : ℕ}
+    → Eventing kinds doors persons answers phases reasons held before out cards next i → length kinds ≤ i
+    → Wrote before 0 (streamFrom kinds doors persons answers phases reasons held) out next
 unfolding eventsOf rowsOf linesOf streamOf
 events-end {kinds} here h = ended (here .pending) (rw (drop-of-length-le kinds h))

@@ -16,7 +16,7 @@ use Rattle.record.specs.declared.record.Record.{Record}
 use Rattle.record.specs.Doors.{Shaped}
 use Rattle.record.specs.Sound.{Sound}
 use Rattle.record.specs.SoundTest.{soundB}
-use Rattle.record.specs.Run.{Reply, rowOf, rowsOf, roomIn, tellingOf, repliesOf, answerTold, phaseTold, reasonTold}
+use Rattle.record.specs.Run.{Reply, rowOf, rowsOf, roomIn, tellingOf, repliesOf, answerTold, phaseTold, reasonTold, heldTold}
 use Rattle.record.proofs.Laws.{done-did, sound-stays, shaped-stays}
 use Rattle.record.proofs.Tells.{sound-tells}
 use Rattle.site_sheet.specs.declared.SiteRead.{SiteRead}
@@ -109,24 +109,25 @@ rows-doors (k ∷ kinds) (x ∷ doors) [] d p = absurd (omega arith)
 rows-doors (k ∷ kinds) (x ∷ doors) (y ∷ persons) d p = ap (λ (l : List ℕ). x ∷ l) (rows-doors kinds doors persons (omega arith) (omega arith))
 
 -- what is heard of a run in lent lists, and its stream
-pub record HeardOf (r : Record) (kinds doors persons answers phases reasons : List ℕ) : Type 0 where
-  pub heard : Heard kinds doors persons answers phases reasons
-  pub stream : streamFrom kinds doors persons answers phases reasons ≡ streamOf (lineEventsIn r (rowsOf kinds doors persons))
+pub record HeardOf (r : Record) (kinds doors persons answers phases reasons held : List ℕ) : Type 0 where
+  pub heard : Heard kinds doors persons answers phases reasons held
+  pub stream : streamFrom kinds doors persons answers phases reasons held ≡ streamOf (lineEventsIn r (rowsOf kinds doors persons))
 
--- what a run's lists of answers, phases and reasons have behind a run with room for them
-abbrev Behind : Record → List ℕ → List ℕ → List ℕ → (answers phases reasons : List ℕ) → (Reply → ℕ) → List ℕ → List ℕ → Type 0
-Behind r kinds doors persons answers phases reasons tell list after =
-    after ≡ tellingOf r (roomIn kinds doors persons answers phases reasons) (map tell (repliesOf r (rowsOf kinds doors persons))) list
+-- what a run's lists of answers, phases, reasons and held doors have behind a run with room for them
+abbrev Behind : Record → List ℕ → List ℕ → List ℕ → (answers phases reasons held : List ℕ) → (Reply → ℕ) → List ℕ → List ℕ → Type 0
+Behind r kinds doors persons answers phases reasons held tell list after =
+    after ≡ tellingOf r (roomIn kinds doors persons answers phases reasons held) (map tell (repliesOf r (rowsOf kinds doors persons))) list
 
 module _ (r : Record) (kinds doors persons : List ℕ) (d : length doors ≡ length kinds) (p : length persons ≡ length kinds) where
   rows-long : length (rowsOf kinds doors persons) ≡ length kinds
   rows-long = sym (length-map (rowsOf kinds doors persons) (λ (row : StepRow). row .at)) ∙ (ap length (rows-doors kinds doors persons d p) ∙ d)
 
-  heard-so : Shaped r → soundB r ≡ true → {answers phases reasons : List ℕ} → answers ≡ map answerTold (repliesOf r (rowsOf kinds doors persons))
+  heard-so : Shaped r → soundB r ≡ true → {answers phases reasons held : List ℕ} → answers ≡ map answerTold (repliesOf r (rowsOf kinds doors persons))
       → phases ≡ map phaseTold (repliesOf r (rowsOf kinds doors persons)) → reasons ≡ map reasonTold (repliesOf r (rowsOf kinds doors persons))
-      → HeardOf r kinds doors persons answers phases reasons
+      → held ≡ map heldTold (repliesOf r (rowsOf kinds doors persons))
+      → HeardOf r kinds doors persons answers phases reasons held
   unfolding heardOf
-  heard-so sh s a ph why =
+  heard-so sh s a ph why with-door =
       record {
         heard = record {
           doors-long = d;
@@ -134,23 +135,25 @@ module _ (r : Record) (kinds doors persons : List ℕ) (d : length doors ≡ len
           answers-long = rw a (told-length answerTold r _ ∙ rows-long);
           phases-long = rw ph (told-length phaseTold r _ ∙ rows-long);
           reasons-long = rw why (told-length reasonTold r _ ∙ rows-long);
+          held-long = rw with-door (told-length heldTold r _ ∙ rows-long);
           exists = λ i h e.
               rw (rows-doors kinds doors persons d p) at
               (door-exists (rowsOf kinds doors persons) r sh (sound-tells r sh .yes s) i (rw rows-long h) (rw a at e));
         };
-        stream = rw (a, ph, why, parts-back (repliesOf r (rowsOf kinds doors persons)));
+        stream = rw (a, ph, why, with-door, parts-back (repliesOf r (rowsOf kinds doors persons)));
       }
 
-  pub run-heard : Shaped r → soundB r ≡ true → (answers phases reasons : List ℕ) → length kinds ≤ length answers → length kinds ≤ length phases
-      → length kinds ≤ length reasons → {answers′ phases′ reasons′ : List ℕ} → Behind r kinds doors persons answers phases reasons answerTold answers answers′
-      → Behind r kinds doors persons answers phases reasons phaseTold phases phases′ → Behind r kinds doors persons answers phases reasons reasonTold reasons reasons′
-      → HeardOf r kinds doors persons (take (length kinds) answers′) (take (length kinds) phases′) (take (length kinds) reasons′)
-  run-heard sh s answers phases reasons ha hf hr a ph why =
-      let room : roomIn kinds doors persons answers phases reasons ≡ true = rw (d, p) (has-room (length kinds) _ _ _ ha hf hr) in
+  pub run-heard : Shaped r → soundB r ≡ true → (answers phases reasons held : List ℕ) → length kinds ≤ length answers → length kinds ≤ length phases
+      → length kinds ≤ length reasons → length kinds ≤ length held → {answers′ phases′ reasons′ held′ : List ℕ} → Behind r kinds doors persons answers phases reasons held answerTold answers answers′
+      → Behind r kinds doors persons answers phases reasons held phaseTold phases phases′ → Behind r kinds doors persons answers phases reasons held reasonTold reasons reasons′
+      → Behind r kinds doors persons answers phases reasons held heldTold held held′
+      → HeardOf r kinds doors persons (take (length kinds) answers′) (take (length kinds) phases′) (take (length kinds) reasons′) (take (length kinds) held′)
+  run-heard sh s answers phases reasons held ha hf hr hh a ph why with-door =
+      let room : roomIn kinds doors persons answers phases reasons held ≡ true = rw (d, p) (has-room (length kinds) _ _ _ _ ha hf hr hh) in
       let long : (tell : Reply → ℕ) → length kinds ≡ length (map tell (repliesOf r (rowsOf kinds doors persons))) =
       λ tell. sym (told-length tell r (rowsOf kinds doors persons) ∙ rows-long) in
       heard-so sh s (front-of _ answers (long answerTold) ha (ran-told r _ _ answers s room a)) (front-of _ phases (long phaseTold) hf (ran-told r _ _ phases s room ph))
-      (front-of _ reasons (long reasonTold) hr (ran-told r _ _ reasons s room why))
+      (front-of _ reasons (long reasonTold) hr (ran-told r _ _ reasons s room why)) (front-of _ held (long heldTold) hh (ran-told r _ _ held s room with-door))
 
 -- the fronts of three decoded lists are the steps of the sheet
 pub decoded-rows : {steps : Steps} {count : ℕ} {kinds doors persons : List ℕ} → Decodes steps count kinds doors persons

@@ -3,7 +3,7 @@
 --     lines-tell          a line tells all of its event but the row
 --     stream-is-read      frame after frame a stream reads as the events of its run
 --     collector-knows     whoever reads it and has the site's sheet knows where everyone is
---     events-text-fits    no stream has more than 50 bytes for each step that a sheet can have
+--     events-text-fits    no stream has more than 58 bytes for each step that a sheet can have
 use Prim.Native.Nat.{ℕ, _≤_}
 use mathlib.Core.Path.{_≡_, refl, sym, ap, _∙_}
 use mathlib.Core.Bool.{Bool, true, false, cond}
@@ -25,7 +25,7 @@ use Rattle.syslog.specs.declared.LineEvent.{LineEvent}
 use Rattle.syslog.specs.Line.{streamOf}
 use Rattle.syslog.specs.Reading.{StreamSays}
 use Rattle.syslog.proofs.Theorems.{one-stream-reading, stream-read-back}
-use Rattle.stream_text.specs.Stream.{msgidOf, reasonOf, lineEvent, stepsEvents, sheetEvents, eventsText, mostStreamText}
+use Rattle.stream_text.specs.Stream.{msgidOf, reasonOf, heldBy, lineEvent, stepsEvents, sheetEvents, eventsText, mostStreamText}
 use Rattle.stream_text.specs.Claims.{EventsFit, SameButRow, StreamIsRead, CollectorKnows}
 use Rattle.stream_text.proofs.Fit.{run-fits, fresh-fits, sheets-fit}
 use Rattle.stream_text.proofs.Collecting.{sheets-collected}
@@ -35,16 +35,16 @@ pub events-fit : EventsFit
 events-fit = record { of-a-run = run-fits; of-a-fresh-run = fresh-fits; of-the-sheets = sheets-fit }
 
 -- what a line says of an event, back
-whatOf : Msgid → ℕ → What
-whatOf msgid.Grant reason = Grant
-whatOf msgid.Deny reason = Denial reason
-whatOf msgid.Pass reason = Passage
-whatOf msgid.Lapse reason = Lapse
+whatOf : Msgid → ℕ → ℕ → What
+whatOf msgid.Grant reason held = Grant
+whatOf msgid.Deny reason held = Denial reason held
+whatOf msgid.Pass reason held = Passage
+whatOf msgid.Lapse reason held = Lapse
 
-what-back : (w : What) → whatOf (msgidOf w) (reasonOf w) ≡ w
+what-back : (w : What) → whatOf (msgidOf w) (reasonOf w) (heldBy w) ≡ w
 unfolding whatOf
 what-back Grant = refl
-what-back (Denial why) = refl
+what-back (Denial why held) = refl
 what-back Passage = refl
 what-back Lapse = refl
 
@@ -52,7 +52,7 @@ pub lines-tell : (e f : RunEvent) → lineEvent e ≡ lineEvent f → SameButRow
 unfolding lineEvent
 lines-tell e f same =
     record {
-      same-what = sym (what-back (e .what)) ∙ (ap (λ (l : LineEvent). whatOf (l .msgid) (l .reason)) same ∙ what-back (f .what));
+      same-what = sym (what-back (e .what)) ∙ (ap (λ (l : LineEvent). whatOf (l .msgid) (l .reason) (l .held)) same ∙ what-back (f .what));
       same-door = ap (λ (l : LineEvent). l .door) same;
       same-person = ap (λ (l : LineEvent). l .person) same;
     }

@@ -1,4 +1,4 @@
--- What the theorems of proofs/Theorems.antt say. 02, C-11.
+-- What the theorems of proofs/Theorems.antt say. 02, C-11 and C-12.
 use Prim.Native.Nat.{ℕ, _≤_}
 use mathlib.Core.Path.{_≡_}
 use mathlib.Core.Bool.{Bool, true}
@@ -24,7 +24,7 @@ use Rattle.syslog.specs.Line.{AllFit}
 use Rattle.syslog.specs.Reading.{StreamSays}
 use Rattle.stream_text.specs.Stream.{lineEvent, lineEventsIn, sheetEvents, eventsText, collected}
 
--- Every event of a run has a line: no door or person is over 63, and the reason fits.
+-- Every event of a run has a line: no door or person is over 63, and the reason and the held door fit.
 pub record EventsFit : Type 0 where
   -- of every list of steps, from every sound record whose people are no more than a site's, with any spells that agree with its doors,
   pub of-a-run : (r : Record) → Shaped r → Sound r → r .people ≤ mostPeople → (spells : ℕ → Spell) (n : ℕ) → Agree spells r → (rows : List StepRow)

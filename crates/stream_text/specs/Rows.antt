@@ -19,34 +19,35 @@ use Rattle.syslog.specs.Line.{streamOf}
 use Rattle.stream_text.specs.Stream.{lineEvent}
 
 -- a step beside its reply
-abbrev pub lineWith : Kind → ℕ → ℕ → ℕ → ℕ → ℕ → Line
-lineWith kind d p answer phase reason =
-    record { row = record { kind = kind; at = d; person = p }; reply = record { answer = answer; phase = phase; reason = reason } }
+abbrev pub lineWith : Kind → ℕ → ℕ → ℕ → ℕ → ℕ → ℕ → Line
+lineWith kind d p answer phase reason held =
+    record { row = record { kind = kind; at = d; person = p }; reply = record { answer = answer; phase = phase; reason = reason; held = held } }
 
--- six lent lists are the lines of a run
-abbrev pub linesFrom : List ℕ → List ℕ → List ℕ → List ℕ → List ℕ → List ℕ → List Line
-linesFrom kinds doors persons answers phases reasons = linesOf (rowsOf kinds doors persons) (repliesFrom answers phases reasons)
+-- seven lent lists are the lines of a run
+abbrev pub linesFrom : List ℕ → List ℕ → List ℕ → List ℕ → List ℕ → List ℕ → List ℕ → List Line
+linesFrom kinds doors persons answers phases reasons held = linesOf (rowsOf kinds doors persons) (repliesFrom answers phases reasons held)
 
 -- and their events are a stream
-abbrev pub streamFrom : List ℕ → List ℕ → List ℕ → List ℕ → List ℕ → List ℕ → List ℕ
-streamFrom kinds doors persons answers phases reasons = streamOf (map lineEvent (eventsOf noSpells 1 (linesFrom kinds doors persons answers phases reasons)))
+abbrev pub streamFrom : List ℕ → List ℕ → List ℕ → List ℕ → List ℕ → List ℕ → List ℕ → List ℕ
+streamFrom kinds doors persons answers phases reasons held = streamOf (map lineEvent (eventsOf noSpells 1 (linesFrom kinds doors persons answers phases reasons held)))
 
 -- the lists are as long as one another, and the door of a step that was done exists
-pub record Heard (kinds doors persons answers phases reasons : List ℕ) : Type 0 where
+pub record Heard (kinds doors persons answers phases reasons held : List ℕ) : Type 0 where
   pub doors-long : length doors ≡ length kinds
   pub persons-long : length persons ≡ length kinds
   pub answers-long : length answers ≡ length kinds
   pub phases-long : length phases ≡ length kinds
   pub reasons-long : length reasons ≡ length kinds
+  pub held-long : length held ≡ length kinds
   pub exists : (i : ℕ) → i < length kinds → getD answers i 0 ≡ doneNo → getD doors i 0 < mostDoors
 
 -- the event of a `decide`: "1 to 2 or 6"
-abbrev pub decidedEvent : ℕ → ℕ → ℕ → ℕ → LineEvent
-decidedEvent phase reason d p = lineEvent (event 0 d p (cond (eqb phase granted) Grant (Denial reason)))
+abbrev pub decidedEvent : ℕ → ℕ → ℕ → ℕ → ℕ → LineEvent
+decidedEvent phase reason held d p = lineEvent (event 0 d p (cond (eqb phase granted) Grant (Denial reason held)))
 
 -- what one step writes, a card of person p being at its door
-unfoldable pub toldText : Kind → ℕ → ℕ → ℕ → ℕ → ℕ → List ℕ
-toldText kind answer phase reason d p = streamOf (map lineEvent (eventBy (meaningOf (lineWith kind d 0 answer phase reason)) 0 d p))
+unfoldable pub toldText : Kind → ℕ → ℕ → ℕ → ℕ → ℕ → ℕ → List ℕ
+toldText kind answer phase reason held d p = streamOf (map lineEvent (eventBy (meaningOf (lineWith kind d 0 answer phase reason held)) 0 d p))
 
 -- whose card is at the door after a step with this person was done: a `card` is taken, an `ack` frees the door
 abbrev pub cardBy : Kind → ℕ → ℕ → ℕ

@@ -25,20 +25,27 @@ use Rattle.syslog.specs.Line.{streamOf}
 -- "The four MSGIDs are GRANT, DENY, PASS, LAPSE."
 abbrev pub msgidOf : What → Msgid
 msgidOf Grant = msgid.Grant
-msgidOf (Denial why) = msgid.Deny
+msgidOf (Denial why held) = msgid.Deny
 msgidOf Passage = msgid.Pass
 msgidOf Lapse = msgid.Lapse
 
 -- "a denial, which adds ` reason=` and the number"; all else has none
 abbrev pub reasonOf : What → ℕ
 reasonOf Grant = 0
-reasonOf (Denial why) = why
+reasonOf (Denial why held) = why
 reasonOf Passage = 0
 reasonOf Lapse = 0
 
+-- 02, C-12: "DENY lines with reason 3 end in ` held=` and the door", which the run tells with the reason; all else has none
+abbrev pub heldBy : What → ℕ
+heldBy Grant = 0
+heldBy (Denial why held) = held
+heldBy Passage = 0
+heldBy Lapse = 0
+
 -- `door=3 person=1`: its door and the card's person; a line doesn't tell the row
 unfoldable pub lineEvent : RunEvent → LineEvent
-lineEvent e = record { msgid = msgidOf (e .what); door = e .at; person = e .person; reason = reasonOf (e .what) }
+lineEvent e = record { msgid = msgidOf (e .what); door = e .at; person = e .person; reason = reasonOf (e .what); held = heldBy (e .what) }
 
 -- ---- the events of two sheets
 
@@ -63,9 +70,9 @@ sheetEvents site steps = siteEvents (siteOf site) steps
 unfoldable pub eventsText : List ℕ → List ℕ → List ℕ
 eventsText site steps = streamOf (sheetEvents site steps)
 
--- No stream is longer: a sheet has at most so many steps, a step gives one event or none, and a frame has at most 50 bytes.
+-- No stream is longer: a sheet has at most so many steps, a step gives one event or none, and a frame has at most 58 bytes.
 abbrev pub mostStreamText : ℕ
-mostStreamText = 50 * mostSteps
+mostStreamText = 58 * mostSteps
 
 -- ---- what a collector makes of a stream
 

@@ -10,12 +10,12 @@ use Rattle.stream.proofs.rows.put_decided.Tie as tie
 returns : tie.Need-returns
 returns c =
     let a = c .before .before .before .before .before .before .args in
-    said (ap framedOf (decided-granted (a .phase) (a .reason) (a .door) (a .person) (c .before .before .before .before .if1 .taken))) (c .before .before .put-frame .ensures)
+    said (ap framedOf (decided-granted (a .phase) (a .reason) (a .held) (a .door) (a .person) (c .before .before .before .before .if1 .taken))) (c .before .before .put-frame .ensures)
 
 returns-2 : tie.Need-returns-2
 returns-2 c =
     let a = c .before .before .before .before .before .before .args in
-    said (ap framedOf (decided-denied (a .phase) (a .reason) (a .door) (a .person) (c .before .before .before .before .if1 .left))) (c .before .before .put-frame2 .ensures)
+    said (ap framedOf (decided-denied (a .phase) (a .reason) (a .held) (a .door) (a .person) (c .before .before .before .before .if1 .left))) (c .before .before .put-frame2 .ensures)
 
 pub put-decided-spec : {M : Type 1} → statement M
 put-decided-spec = tie.close (tie.spec

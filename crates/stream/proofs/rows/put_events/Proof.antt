@@ -8,10 +8,10 @@ use Rattle.stream.proofs.rows.put_events.Statement.{statement}
 use Rattle.stream.proofs.rows.put_events.Tie as tie
 
 abbrev Inv-loop : tie.InvT-loop
-Inv-loop kinds doors persons answers phases reasons out₀ cards₀ next₀ i₀ out cards next i = Eventing kinds doors persons answers phases reasons out₀ out cards next i
+Inv-loop kinds doors persons answers phases reasons held out₀ cards₀ next₀ i₀ out cards next i = Eventing kinds doors persons answers phases reasons held out₀ out cards next i
 
 abbrev μ-loop : tie.MeasureT-loop
-μ-loop kinds doors persons answers phases reasons out₀ cards₀ next₀ i₀ out cards next i = length kinds - i
+μ-loop kinds doors persons answers phases reasons held out₀ cards₀ next₀ i₀ out cards next i = length kinds - i
 
 loop-holds : tie.Need-loop-holds Inv-loop μ-loop
 loop-holds c = events-start (c .no-cards .ensures) (omega arith)
