@@ -10,12 +10,32 @@ use Rattle.text.specs.Text.{digits, decimal, rowOfNumbers}
 use Rattle.syslog.specs.Line.{lineOf, framedOf}
 use Rattle.syslog.specs.Rows.{eventRow, refusedRow}
 use Rattle.syslog.specs.Rfc.{EachByte, and, From_To_, DIGIT, PRINTUSASCII, numberSaidFrom, numberSaid, NonzeroFirst, nonzero-first, Utf8, one, Version, version, TwoDigits, fraction, utc, isLeap, daysOf, Moment, NameByte, SdName, MustBeEscaped, Escaped, plain, Params, param, NotAmong, Elements, element, StructuredData}
+use Rattle.syslog.specs.Guess.{msgidBy, msgidIn, behindMark, isDigit, numberOn}
 use Rattle.syslog.specs.Examples.{LineExamples, RfcExamples}
+use Rattle.syslog.proofs.Finding.{line-other}
 use Rattle.syslog.proofs.Message.{allWithin, each-within}
 
+-- texts of two lengths aren't the same
+other-length : {xs ys : List ℕ} → xs ≡ ys → (length xs ≡ length ys → ⊥) → ⊥
+other-length is ne = ne (ap length is)
+
 pub line-examples : LineExamples
-unfolding digits decimal rowOfNumbers lineOf framedOf eventRow refusedRow
-line-examples = record { grant = refl; grant-framed = refl; denial = refl; passage = refl; lapse = refl; row = refl; refused-row = refl }
+unfolding digits decimal rowOfNumbers lineOf framedOf eventRow refusedRow msgidBy msgidIn behindMark isDigit numberOn andAlso
+line-examples =
+    record {
+      grant = refl;
+      grant-framed = refl;
+      denial = refl;
+      held = refl;
+      without-held = line-other (λ is. other-length is (λ e. omega arith));
+      held-with-1 = line-other (λ is. other-length is (λ e. omega arith));
+      held-granted = line-other (λ is. other-length is (λ e. omega arith));
+      passage = refl;
+      lapse = refl;
+      row = refl;
+      held-row = refl;
+      refused-row = refl;
+    }
 
 -- ---- what the RFCs allow and don't
 

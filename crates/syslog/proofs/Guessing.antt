@@ -10,10 +10,10 @@ use Rattle.text.specs.Text.{digitByte, digits, decimal}
 use Rattle.syslog.specs.declared.Msgid.{Msgid}
 use Rattle.syslog.specs.declared.Msgid.the-variants.{Grant, Deny, Pass, Lapse}
 use Rattle.syslog.specs.declared.LineEvent.{LineEvent}
-use Rattle.syslog.specs.Line.{personMark, reasonPart, lineOf, headOf, tailOf, framedOf, ReasonFits, Fits}
+use Rattle.syslog.specs.Line.{personMark, heldPart, reasonPart, lineOf, headOf, tailOf, framedOf, ReasonFits, HeldFits, Fits}
 use Rattle.syslog.specs.Guess.{msgidBy, msgidIn, behindMark, isDigit, numberOn, numberFrom, guessOf}
 use Rattle.syslog.proofs.Digits.{skips, Stops, at-end, at-byte, number-back}
-use Rattle.syslog.proofs.Lengths.{head-and-tail}
+use Rattle.syslog.proofs.Lengths.{head-and-tail, by-held}
 
 -- ---- digits are passed over
 
@@ -47,33 +47,56 @@ person-mark : (t : List ℕ) → behindMark (personMark ++ t) ≡ t
 unfolding behindMark
 person-mark t = refl
 
-reason-mark : (m : Msgid) (reason : ℕ) → ReasonFits m reason → numberFrom (behindMark (reasonPart m reason)) ≡ reason
+held-stops : (reason held : ℕ) → Stops (heldPart reason held)
+unfolding isDigit andAlso
+held-stops reason held = by-held Stops reason held (λ _. at-byte {b = 32} refl) (λ _. at-end)
+
+reason-mark : (m : Msgid) (reason held : ℕ) → ReasonFits m reason → numberFrom (behindMark (reasonPart m reason held)) ≡ reason
 unfolding behindMark numberOn
-reason-mark Grant reason f = sym f
-reason-mark Deny reason f = rw append-nil at (number-back reason {t = []} (omega (arith, f .1)) at-end)
-reason-mark Pass reason f = sym f
-reason-mark Lapse reason f = sym f
+reason-mark Grant reason held f = sym f
+reason-mark Deny reason held f = number-back reason (omega (arith, f .1)) (held-stops reason held)
+reason-mark Pass reason held f = sym f
+reason-mark Lapse reason held f = sym f
+
+-- the held door stands behind a mark of its own, and is 0 where there is none
+held-number : (reason held : ℕ) → HeldFits reason held → numberFrom (behindMark (heldPart reason held)) ≡ held
+unfolding behindMark numberOn
+held-number reason held f =
+    by-held (λ (t : List ℕ). numberFrom (behindMark t) ≡ held) reason held
+    (λ is. rw append-nil at (number-back held {t = []} (omega (arith, f .0 is)) at-end)) (λ other. sym (f .1 other))
+
+none-held : (reason held : ℕ) → reason ≡ 0 → HeldFits reason held → 0 ≡ held
+none-held reason held z f = sym (f .1 (λ is. omega arith))
+
+held-mark : (m : Msgid) (reason held : ℕ) → ReasonFits m reason → HeldFits reason held
+    → numberFrom (behindMark (behindMark (reasonPart m reason held))) ≡ held
+unfolding behindMark numberOn
+held-mark Grant reason held f g = none-held reason held f g
+held-mark Deny reason held f g = ap numberFrom (skips behindMark digit-no-mark reason (heldPart reason held)) ∙ held-number reason held g
+held-mark Pass reason held f g = none-held reason held f g
+held-mark Lapse reason held f g = none-held reason held f g
 
 blank-stops : (t : List ℕ) → Stops (personMark ++ t)
 unfolding isDigit andAlso
 blank-stops t = at-byte {b = 32} refl
 
-reason-stops : (m : Msgid) (reason : ℕ) → Stops (reasonPart m reason)
+reason-stops : (m : Msgid) (reason held : ℕ) → Stops (reasonPart m reason held)
 unfolding isDigit andAlso
-reason-stops Grant reason = at-end
-reason-stops Deny reason = at-byte {b = 32} refl
-reason-stops Pass reason = at-end
-reason-stops Lapse reason = at-end
+reason-stops Grant reason held = at-end
+reason-stops Deny reason held = at-byte {b = 32} refl
+reason-stops Pass reason held = at-end
+reason-stops Lapse reason held = at-end
 
 -- a text with an event's MSGID for its first word, and its tail behind the first mark
 guess-is : (e : LineEvent) → Fits e → (t : List ℕ) → msgidIn t ≡ e .msgid → behindMark t ≡ tailOf e → guessOf t ≡ e
 guess-is e f t m b =
-    let last = decimal (e .person) ++ reasonPart (e .msgid) (e .reason) in
+    let end = reasonPart (e .msgid) (e .reason) (e .held) in
+    let last = decimal (e .person) ++ end in
     let two : behindMark (tailOf e) ≡ last = skips behindMark digit-no-mark (e .door) (personMark ++ last) ∙ person-mark last in
-    let three : behindMark last ≡ behindMark (reasonPart (e .msgid) (e .reason)) = skips behindMark digit-no-mark (e .person) (reasonPart (e .msgid) (e .reason)) in
+    let three : behindMark last ≡ behindMark end = skips behindMark digit-no-mark (e .person) end in
     let door : numberFrom (tailOf e) ≡ e .door = number-back (e .door) (omega (arith, f .door)) (blank-stops last) in
-    let person : numberFrom last ≡ e .person = number-back (e .person) (omega (arith, f .person)) (reason-stops (e .msgid) (e .reason)) in
-    rw (m, b, two, three, door, person, reason-mark (e .msgid) (e .reason) (f .reason))
+    let person : numberFrom last ≡ e .person = number-back (e .person) (omega (arith, f .person)) (reason-stops (e .msgid) (e .reason) (e .held)) in
+    rw (m, b, two, three, door, person, reason-mark (e .msgid) (e .reason) (e .held) (f .reason), held-mark (e .msgid) (e .reason) (e .held) (f .reason) (f .held))
 
 pub guess-line : (e : LineEvent) → Fits e → guessOf (lineOf e) ≡ e
 guess-line e f =

@@ -14,12 +14,12 @@ use Rattle.text.specs.Text.{digits, decimal}
 use Rattle.syslog.specs.declared.Msgid.{Msgid}
 use Rattle.syslog.specs.declared.Msgid.the-variants.{Grant, Deny, Pass, Lapse}
 use Rattle.syslog.specs.declared.LineEvent.{LineEvent}
-use Rattle.syslog.specs.Line.{facility, severityOf, nameOf, doorMark, personMark, reasonMark, reasonPart, messageOf, lineOf, framedOf, streamOf}
+use Rattle.syslog.specs.Line.{facility, severityOf, nameOf, doorMark, personMark, reasonMark, heldMark, heldPart, reasonPart, messageOf, lineOf, framedOf, streamOf}
 use Rattle.syslog.specs.Rfc as rfc
 use Rattle.syslog.specs.Rfc.{EachByte, no-more, and, From_To_, OCTET, PriVal, version, Printable, MsgId, Msg, any, msg, nilValue, TcpData}
 use Rattle.syslog.specs.Claims.{partsOf, LineIsRfc5424, FrameIsRfc6587}
 use Rattle.syslog.proofs.Digits.{said-back, each-both, each-digit, count-digits}
-use Rattle.syslog.proofs.Lengths.{line-least}
+use Rattle.syslog.proofs.Lengths.{by-held, line-least}
 use Rattle.text.proofs.Decimal.{decimal-some, digits-most}
 
 -- ---- each byte of a text, by a test
@@ -67,18 +67,23 @@ name-is Deny = record { each = each-within 33 126 (nameOf Deny) refl; some = ome
 name-is Pass = record { each = each-within 33 126 (nameOf Pass) refl; some = omega arith; few = omega arith }
 name-is Lapse = record { each = each-within 33 126 (nameOf Lapse) refl; some = omega arith; few = omega arith }
 
-reason-octets : (m : Msgid) (reason : ℕ) → EachByte OCTET (reasonPart m reason)
+held-octets : (reason held : ℕ) → EachByte OCTET (heldPart reason held)
 unfolding allWithin andAlso
-reason-octets Grant reason = no-more
-reason-octets Deny reason = each-both (octets reasonMark refl) (number-octets reason)
-reason-octets Pass reason = no-more
-reason-octets Lapse reason = no-more
+held-octets reason held =
+    by-held (EachByte OCTET) reason held (λ _. each-both (octets heldMark refl) (number-octets held)) (λ _. no-more)
+
+reason-octets : (m : Msgid) (reason held : ℕ) → EachByte OCTET (reasonPart m reason held)
+unfolding allWithin andAlso
+reason-octets Grant reason held = no-more
+reason-octets Deny reason held = each-both (octets reasonMark refl) (each-both (number-octets reason) (held-octets reason held))
+reason-octets Pass reason held = no-more
+reason-octets Lapse reason held = no-more
 
 message-octets : (e : LineEvent) → EachByte OCTET (messageOf e)
 unfolding allWithin andAlso
 message-octets e =
     each-both (octets doorMark refl)
-    (each-both (number-octets (e .door)) (each-both (octets personMark refl) (each-both (number-octets (e .person)) (reason-octets (e .msgid) (e .reason)))))
+    (each-both (number-octets (e .door)) (each-both (octets personMark refl) (each-both (number-octets (e .person)) (reason-octets (e .msgid) (e .reason) (e .held)))))
 
 -- "MSG-ANY = *OCTET ; not starting with BOM"
 message-is : (e : LineEvent) → Msg (messageOf e)

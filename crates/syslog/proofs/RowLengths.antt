@@ -7,7 +7,7 @@ use lib.ListN.{length, length-append}
 use Rattle.numbers.specs.Numbers.{notALineNo}
 use Rattle.grammar.specs.Grammar.{comma}
 use Rattle.text.specs.Text.{digits, decimal, rowOfNumbers}
-use Rattle.text.proofs.Decimal.{one-digit}
+use Rattle.text.proofs.Decimal.{one-digit, two-digits}
 use Rattle.text.proofs.Rows.{last-length, more-length}
 use Rattle.syslog.specs.declared.Msgid.{Msgid}
 use Rattle.syslog.specs.declared.Msgid.the-variants.{Grant, Deny, Pass, Lapse}
@@ -15,6 +15,7 @@ use Rattle.syslog.specs.declared.LineEvent.{LineEvent}
 use Rattle.syslog.specs.Line.{nameOf, framedOf, ReasonFits, Fits}
 use Rattle.syslog.specs.Reading.{StreamSays, ends, breaks, more}
 use Rattle.syslog.specs.Rows.{mostStream, eventsHeader, eventRow, refusedRow, eventRows, streamRows, longRows}
+use Rattle.syslog.proofs.Fit.{held-below}
 use Rattle.syslog.proofs.Lengths.{head-least, line-length, frame-is}
 use Rattle.syslog.proofs.Finding.{frame-onward}
 
@@ -33,25 +34,27 @@ reason-few Lapse reason f = omega (arith, f)
 row-short : (e : LineEvent) → Fits e → length (eventRow e) ≤ length (framedOf e)
 unfolding eventRow
 row-short e f =
-    let numbers = rowOfNumbers (e .door) (e .person ∷ e .reason ∷ []) in
+    let numbers = rowOfNumbers (e .door) (e .person ∷ e .reason ∷ e .held ∷ []) in
     let a = length-append (decimal 0) (comma ∷ (nameOf (e .msgid) ++ (comma ∷ numbers))) in
     let b = length-append (nameOf (e .msgid)) (comma ∷ numbers) in
-    let c = more-length (e .door) (e .person) (e .reason ∷ []) in
-    let d = more-length (e .person) (e .reason) [] in
-    let g = last-length (e .reason) in
+    let c = more-length (e .door) (e .person) (e .reason ∷ e .held ∷ []) in
+    let d = more-length (e .person) (e .reason) (e .held ∷ []) in
+    let g = more-length (e .reason) (e .held) [] in
+    let h = last-length (e .held) in
     let one = one-digit 0 (omega arith) in
     let name = name-few (e .msgid) in
     let reason = one-digit (e .reason) (reason-few (e .msgid) (e .reason) (f .reason)) in
+    let held = two-digits (e .held) (omega (arith, held-below (e .reason) (e .held) (f .held))) in
     let frame = frame-is e f in
     let line = line-length e in
     let head = head-least (e .msgid) in
     omega arith
 
-refused-short : length (refusedRow notALineNo) ≤ 12
+refused-short : length (refusedRow notALineNo) ≤ 13
 unfolding refusedRow decimal digits rowOfNumbers
 refused-short = omega arith
 
-rows-few : {s : List ℕ} {at : ℕ} {es : List LineEvent} {whole : Bool} → StreamSays s at es whole → length (eventRows es whole) ≤ length s - at + 12
+rows-few : {s : List ℕ} {at : ℕ} {es : List LineEvent} {whole : Bool} → StreamSays s at es whole → length (eventRows es whole) ≤ length s - at + 13
 unfolding eventRows
 rows-few (ends x) = omega arith
 rows-few (breaks x) = let r = refused-short in omega arith

@@ -1,4 +1,4 @@
--- The theorems of syslog lines by name; what the longer ones say is in specs/Claims.antt. 02, C-11. Assumes nothing.
+-- The theorems of syslog lines by name; what the longer ones say is in specs/Claims.antt. 02, C-11 and C-12. Assumes nothing.
 --     lines-are-rfc5424      every line is a message by RFC 5424, and its PRI says the facility and the severity
 --     frames-are-rfc6587     every frame is one by RFC 6587, and its number is the line's length in octets
 --     streams-are-tcp-data   every stream is a run of such frames

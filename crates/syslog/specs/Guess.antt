@@ -37,7 +37,8 @@ numberOn (suc more) n (b ∷ bs) = cond (isDigit b) (numberOn more (n * 10 + (b 
 abbrev pub numberFrom : List ℕ → ℕ
 numberFrom bs = numberOn 4 0 bs
 
--- the door behind the first `=`, the person behind the second, the reason behind the third
+-- the door behind the first `=`, the person behind the second, the reason behind the third, the held door behind the fourth; a number is 0
+-- where there is no such mark
 abbrev pub guessOf : List ℕ → LineEvent
 guessOf text =
     record {
@@ -45,6 +46,7 @@ guessOf text =
       door = numberFrom (behindMark text);
       person = numberFrom (behindMark (behindMark text));
       reason = numberFrom (behindMark (behindMark (behindMark text)));
+      held = numberFrom (behindMark (behindMark (behindMark (behindMark text))));
     }
 
 -- a line has 10 to 99 bytes, so that its count has two digits, and a blank stands behind them

@@ -1,5 +1,5 @@
 -- A line or a frame in a lent list. 02, C-11: "writing, 11 for a door or person over 63 or a reason that doesn't fit the event, then 13
--- if the lent buffer is too short".
+-- if the lent buffer is too short". C-12: "11 for a held door that is over 63 or doesn't fit the reason".
 use Prim.Native.Nat.{ℕ}
 use mathlib.Core.Path.{_≡_}
 use mathlib.Core.Bool.{cond}

@@ -1,5 +1,5 @@
 -- What a list of bytes reads as. 02, C-11: "Wanted too is the reader that gives the event back from such a line", "reading, 15 if the
--- bytes aren't such a line".
+-- bytes aren't such a line". C-12: "15 without it", the held door of a DENY line with reason 3; such bytes are the line of no event.
 use Prim.Native.Nat.{ℕ, _+_}
 use mathlib.Core.Path.{_≡_}
 use mathlib.Core.Bool.{Bool, true, false}

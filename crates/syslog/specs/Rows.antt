@@ -1,5 +1,6 @@
 -- What `read-events` prints of a stream. The issue of C-11: "header `answer,event,door,person,reason`, then `0,GRANT,3,1,0` for each
--- frame; at the first place that is no frame of ours `15,,0,0,0` and ends; a longer stream gives `1,,0,0,0` alone."
+-- frame; at the first place that is no frame of ours `15,,0,0,0` and ends; a longer stream gives `1,,0,0,0` alone." That of C-12:
+-- "`read-events` gains the column `held`", so that each of these has one number more.
 use Prim.Native.Nat.{ℕ, _≤_, _<_}
 use mathlib.Core.Bool.{Bool, true, false}
 use mathlib.Core.List.{List, [], _∷_, _++_}
@@ -18,23 +19,24 @@ use Rattle.syslog.specs.Reading.{StreamSays}
 abbrev pub mostStream : ℕ
 mostStream = 524288
 
--- `answer,event,door,person,reason`
+-- `answer,event,door,person,reason,held`
 abbrev pub eventsHeader : List ℕ
 eventsHeader =
     97 ∷ 110 ∷ 115 ∷ 119 ∷ 101 ∷ 114 ∷ 44 ∷ 101 ∷ 118 ∷ 101 ∷ 110 ∷ 116 ∷ 44 ∷ 100 ∷ 111 ∷ 111 ∷ 114 ∷ 44 ∷ 112 ∷ 101 ∷ 114 ∷ 115 ∷ 111 ∷ 110 ∷ 44
-    ∷ 114 ∷ 101 ∷ 97 ∷ 115 ∷ 111 ∷ 110 ∷ 13 ∷ 10 ∷ []
+    ∷ 114 ∷ 101 ∷ 97 ∷ 115 ∷ 111 ∷ 110 ∷ 44 ∷ 104 ∷ 101 ∷ 108 ∷ 100 ∷ 13 ∷ 10 ∷ []
 
--- a row: the answer, the MSGID, or nothing, and three numbers
-abbrev pub rowWith : ℕ → List ℕ → ℕ → ℕ → ℕ → List ℕ
-rowWith answer name door person reason = decimal answer ++ (comma ∷ (name ++ (comma ∷ rowOfNumbers door (person ∷ reason ∷ []))))
+-- a row: the answer, the MSGID, or nothing, and four numbers
+abbrev pub rowWith : ℕ → List ℕ → ℕ → ℕ → ℕ → ℕ → List ℕ
+rowWith answer name door person reason held =
+    decimal answer ++ (comma ∷ (name ++ (comma ∷ rowOfNumbers door (person ∷ reason ∷ held ∷ []))))
 
 unfoldable pub eventRow : LineEvent → List ℕ
-eventRow e = rowWith doneNo (nameOf (e .msgid)) (e .door) (e .person) (e .reason)
+eventRow e = rowWith doneNo (nameOf (e .msgid)) (e .door) (e .person) (e .reason) (e .held)
 
 unfoldable pub refusedRow : ℕ → List ℕ
-refusedRow number = rowWith number [] 0 0 0
+refusedRow number = rowWith number [] 0 0 0 0
 
--- "for each frame"; then nothing where the stream ends, and "at the first place that is no frame of ours `15,,0,0,0`"
+-- "for each frame"; then nothing where the stream ends, and "at the first place that is no frame of ours" `15,,0,0,0,0`
 unfoldable pub eventRows : List LineEvent → Bool → List ℕ
 eventRows [] true = []
 eventRows [] false = refusedRow notALineNo
@@ -43,7 +45,7 @@ eventRows (e ∷ es) whole = eventRow e ++ eventRows es whole
 unfoldable pub streamRows : List LineEvent → Bool → List ℕ
 streamRows es whole = eventsHeader ++ eventRows es whole
 
--- "a longer stream gives `1,,0,0,0` alone"
+-- "a longer stream gives" `1,,0,0,0,0` "alone"
 unfoldable pub longRows : List ℕ
 longRows = eventsHeader ++ refusedRow tooLongNo
 

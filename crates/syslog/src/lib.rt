@@ -21,19 +21,22 @@ pub enum Msgid {
     Lapse,
 }
 
-// An event: what it is, at which door, the card's person, and for a denial its reason, else 0.
+// An event: what it is, at which door, the card's person, for a denial its reason, else 0, and for a denial with reason 3 the door
+// that holds the person's grant, else 0.
 pub struct LineEvent {
     pub msgid: Msgid,
     pub door: usize,
     pub person: usize,
     pub reason: usize,
+    pub held: usize,
 }
 
 // What became of a line or a frame that was to be written.
 pub enum LineWritten {
     // so many bytes at the front of the lent list are the text
     Text(usize),
-    // a door or a person over 63, or a reason that doesn't fit the event; nothing was written
+    // a door, a person or a held door over 63, a reason that doesn't fit the event, or a held door that doesn't fit the reason; nothing
+    // was written
     Unfit,
     // the list is shorter than the text, and nothing was written
     TooShort,
