@@ -6,7 +6,7 @@ ghost use lib.Dec.{leb};
 ghost use Rattle.tables.specs.Tables.{andAlso};
 ghost use Rattle.text.specs.Wrote.{Wrote};
 ghost use Rattle.text.specs.Printed.{Prints};
-ghost use Rattle.syslog.specs.Line.{reasonPart, lineOf, headOf, framedOf, reasonFits, fitsLine};
+ghost use Rattle.syslog.specs.Line.{heldPart, reasonPart, lineOf, headOf, framedOf, reasonFits, heldFits, fitsLine};
 ghost use Rattle.syslog.specs.Lent.{Writes, asLine};
 use findings::Printed;
 use syslog::LineEvent;
@@ -18,6 +18,9 @@ use text::write::put_number;
 
 // The largest door and person of a line.
 const MOST_NUMBER: usize = 63;
+
+// The reason that is told with the door that holds the grant.
+const HELD_REASON: usize = 3;
 
 const BLANK: u8 = 32;
 
@@ -33,15 +36,27 @@ fn put_head(out: &mut [u8], at: usize, msgid: Msgid) -> usize
     }
 }
 
+// The end of a denial's line: reason 3 is told with the held door.
+fn put_held(out: &mut [u8], at: usize, reason: usize, held: usize) -> usize
+    ensures { λ r. ⌜ Wrote (now (out .entry)) at (heldPart reason held) (now (out .exit)) r ⌝ }
+{
+    if reason != HELD_REASON {
+        return at;
+    }
+    let number = put_bytes(out, at, b" held=");
+    put_number(out, number, held)
+}
+
 // The end of a line: a denial tells its reason.
-fn put_reason(out: &mut [u8], at: usize, msgid: Msgid, reason: usize) -> usize
-    ensures { λ r. ⌜ Wrote (now (out .entry)) at (reasonPart msgid reason) (now (out .exit)) r ⌝ }
+fn put_reason(out: &mut [u8], at: usize, msgid: Msgid, reason: usize, held: usize) -> usize
+    ensures { λ r. ⌜ Wrote (now (out .entry)) at (reasonPart msgid reason held) (now (out .exit)) r ⌝ }
 {
     match msgid {
         Msgid::Grant => at,
         Msgid::Deny => {
             let number = put_bytes(out, at, b" reason=");
-            put_number(out, number, reason)
+            let behind = put_number(out, number, reason);
+            put_held(out, behind, reason, held)
         }
         Msgid::Pass => at,
         Msgid::Lapse => at,
@@ -57,7 +72,7 @@ pub fn put_line(out: &mut [u8], at: usize, event: LineEvent) -> usize
     let behind_door = put_number(out, door, event.door);
     let person = put_bytes(out, behind_door, b" person=");
     let behind_person = put_number(out, person, event.person);
-    put_reason(out, behind_person, msgid, event.reason)
+    put_reason(out, behind_person, msgid, event.reason, event.held)
 }
 
 // The frame of an event: the count of its line's bytes, a blank and the line.
@@ -92,6 +107,16 @@ fn reason_fits(msgid: Msgid, reason: usize) -> bool
     }
 }
 
+// Whether a held door fits its reason.
+fn held_fits(reason: usize, held: usize) -> bool
+    ensures { λ r. ⌜ r ≡ heldFits reason held ⌝ }
+{
+    if reason == HELD_REASON {
+        return held <= MOST_NUMBER;
+    }
+    held == 0
+}
+
 // Whether an event has a line.
 pub fn fits_line(event: LineEvent) -> bool
     ensures { λ r. ⌜ r ≡ fitsLine event ⌝ }
@@ -103,7 +128,10 @@ pub fn fits_line(event: LineEvent) -> bool
         return false;
     }
     let msgid = event.msgid;
-    reason_fits(msgid, event.reason)
+    if !reason_fits(msgid, event.reason) {
+        return false;
+    }
+    held_fits(event.reason, event.held)
 }
 
 // The line, if the list is long enough for it.

@@ -15,7 +15,7 @@ unfolding framedOf
 returns c =
     let e = c .before .before .before .before .before .before .before .before .before .before .before .before .before .before .before .before .before .args .event in
     let line = c .before .before .before .before .before .before .before .before .before .before .before .before .before .before .put-line .ensures in
-    let few = line-small e (omega (arith, c .before .before .before .before .before .before .before .before .before .before .before .before .before .before .before .before .before .good)) (omega (arith, c .before .before .before .before .before .before .before .before .before .before .before .before .before .before .before .before .before .good)) (omega (arith, c .before .before .before .before .before .before .before .before .before .before .before .before .before .before .before .before .before .good)) in
+    let few = line-small e (omega (arith, c .before .before .before .before .before .before .before .before .before .before .before .before .before .before .before .before .before .good)) (omega (arith, c .before .before .before .before .before .before .before .before .before .before .before .before .before .before .before .before .before .good)) (omega (arith, c .before .before .before .before .before .before .before .before .before .before .before .before .before .before .before .before .before .good)) (omega (arith, c .before .before .before .before .before .before .before .before .before .before .before .before .before .before .before .before .before .good)) in
     let count : c .before .before .before .before .before .before .before .before .before .before .before .before .before .before .put-line .result ≡ length (lineOf e) = size-is line (omega arith) in
     let first = rw (unaltered line, count) at (c .before .before .before .before .before .before .before .before .before .before .put-number .ensures) in
     last (more (more (begun (omega arith) (omega arith)) refl first) refl (c .before .before .before .before .before .before .put .ensures)) (c .before .before .put-line2 .ensures)
