@@ -1,7 +1,7 @@
 // Reading syslog lines: `read_line` gives the event back from its line, `read_frame` from its frame at a place of a stream. What is
 // promised stands in syslog/specs/Reading.antt.
 //
-// Nothing is parsed strictly. A guess is made of any bytes: the MSGID by its first letter, the numbers behind the first three `=`. The
+// Nothing is parsed strictly. A guess is made of any bytes: the MSGID by its first letter, the numbers behind the first four `=`. The
 // bytes are then compared with the guess's own text, and that decides.
 ghost use Prim.Native.Nat.{_<_};
 ghost use mathlib.Core.Path.{_≡_};
@@ -109,11 +109,13 @@ fn guess(text: &[u8]) -> LineEvent
     let door = behind_mark(text);
     let person = behind_mark(door);
     let reason = behind_mark(person);
+    let held = behind_mark(reason);
     LineEvent {
         msgid,
         door: number_from(door),
         person: number_from(person),
         reason: number_from(reason),
+        held: number_from(held),
     }
 }
 
