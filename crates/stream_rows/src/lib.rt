@@ -40,7 +40,12 @@ fn put_event(out: &mut [u8], at: usize, event: LineEvent) -> usize
     let name = put_bytes(out, at, b"0,");
     let comma = put_name(out, name, msgid);
     let numbers = put(out, comma, COMMA);
-    put_row(out, numbers, event.door, &[event.person, event.reason])
+    put_row(
+        out,
+        numbers,
+        event.door,
+        &[event.person, event.reason, event.held],
+    )
 }
 
 // The row of a refusal.
@@ -49,7 +54,7 @@ fn put_refused(out: &mut [u8], at: usize, number: u8) -> usize
 {
     let commas = put_number(out, at, number as usize);
     let numbers = put_bytes(out, commas, b",,");
-    put_row(out, numbers, 0, &[0, 0])
+    put_row(out, numbers, 0, &[0, 0, 0])
 }
 
 // A row for each frame of a stream, and one more where something else follows.
@@ -78,7 +83,7 @@ fn put_events<'a>(stream: &'a [u8], out: &'a mut [u8], at: usize) -> usize
 fn put_stream<'a>(stream: &'a [u8], out: &'a mut [u8]) -> usize
     ensures { λ r. ⌜ PutsStream (now (stream .entry)) (now (out .entry)) (now (out .exit)) r ⌝ }
 {
-    let rows = put_bytes(out, 0, b"answer,event,door,person,reason\r\n");
+    let rows = put_bytes(out, 0, b"answer,event,door,person,reason,held\r\n");
     put_events(stream, out, rows)
 }
 
@@ -96,7 +101,7 @@ fn print_stream<'a>(stream: &'a [u8], out: &'a mut [u8]) -> Printed
 fn put_long(out: &mut [u8]) -> usize
     ensures { λ r. ⌜ Wrote (now (out .entry)) 0 longRows (now (out .exit)) r ⌝ }
 {
-    let row = put_bytes(out, 0, b"answer,event,door,person,reason\r\n");
+    let row = put_bytes(out, 0, b"answer,event,door,person,reason,held\r\n");
     put_refused(out, row, Paper::TOO_LONG)
 }
 
