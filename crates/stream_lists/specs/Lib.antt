@@ -3,7 +3,7 @@ use Prim.Native.Nat.{ℕ}
 
 -- Room for every stream that `events` prints, and for every text of `read-events`.
 abbrev pub mostEventsText : ℕ
-mostEventsText = 307200
+mostEventsText = 356352
 
 abbrev pub mostRowsText : ℕ
 mostRowsText = 524352

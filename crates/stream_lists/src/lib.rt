@@ -18,7 +18,7 @@ pub fn blank_stream() -> [u8; STREAM_ROOM]
 
 // Room for every stream that `events` prints, and for every text of `read-events`: `events-fits` and `read-events-fits` of
 // crates/demands/specs/DemandOne.antt say so.
-pub const MOST_EVENTS_TEXT: usize = 307200;
+pub const MOST_EVENTS_TEXT: usize = 356352;
 
 pub const MOST_ROWS_TEXT: usize = 524352;
 

@@ -8,7 +8,7 @@ use Rattle.stream_lists.specs.{mostEventsText}
 use Rattle.stream_lists.proofs.blank_events_text.Statement.{statement}
 use Rattle.stream_lists.proofs.blank_events_text.Tie as tie
 
-as-many : _≡_ {A = ℕ} 307200 (mostEventsText)
+as-many : _≡_ {A = ℕ} 356352 (mostEventsText)
 as-many = refl
 
 pub blank-events-text-spec : {M : Type 1} → statement M
