@@ -48,8 +48,8 @@ pub data FrameHas : FrameRead → ℕ → Type 0 where
 
 -- ---- crate `syslog_write`
 
--- "writing, 11 for a door or person over 63 or a reason that doesn't fit the event, then 13 if the lent buffer is too short"; with 0 the
--- text stands in front, its length told, and the rest is unaltered
+-- "writing, 11 for a door or person over 63 or a reason that doesn't fit the event, then 13 if the lent buffer is too short"; C-12, "11 for
+-- a held door that is over 63 or doesn't fit the reason"; with 0 the text stands in front, its length told, and the rest is unaltered
 pub record WriteTells (e : LineEvent) (text out : List ℕ) (told : LineWritten) (after : List ℕ) : Type 0 where
   pub number : NumberBy (noSuchNo unless Fits e then tooShortNo unless length text ≤ length out then done) (writtenNo told)
   pub a-length : writtenNo told ≡ doneNo → told ≡ writing.Text (length text)
@@ -105,7 +105,7 @@ pub record SyslogAnswers : Type 0 where
       → TextWritten list at (lineOf e) after next
   pub put-frame : (list : List ℕ) (at : ℕ) (e : LineEvent) (after : List ℕ) (next : ℕ) → Wrote list at (framedOf e) after next
       → TextWritten list at (framedOf e) after next
-  -- an event has a line exactly when its door and its person are at most 63 and its reason fits
+  -- an event has a line exactly when its door and its person are at most 63, its reason fits it, and its held door the reason
   pub fits-line : (e : LineEvent) → Tells (fitsLine e) (Fits e)
   pub write-line : (e : LineEvent) (out : List ℕ) (told : LineWritten) (after : List ℕ) → Writes e (lineOf e) out told after
       → WriteTells e (lineOf e) out told after
