@@ -45,10 +45,11 @@ fn print_event(event: LineEvent) {
     print_next(event.door);
     print_next(event.person);
     print_next(event.reason);
+    print_next(event.held);
 }
 
 fn print_none() {
-    io::write_all(STDOUT_FILENO, b",,0,0,0");
+    io::write_all(STDOUT_FILENO, b",,0,0,0,0");
 }
 
 fn print_line(text: &[u8]) {
