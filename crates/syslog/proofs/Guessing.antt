@@ -27,14 +27,14 @@ digit-no-mark d h t = rw (ne-eqb (48 + d) 61 (λ e. omega arith))
 
 -- ---- the beginning of a line
 
-head-msgid : (m : Msgid) (t : List ℕ) → msgidIn (headOf m ++ t) ≡ m
+pub head-msgid : (m : Msgid) (t : List ℕ) → msgidIn (headOf m ++ t) ≡ m
 unfolding decimal digits msgidIn msgidBy
 head-msgid Grant t = refl
 head-msgid Deny t = refl
 head-msgid Pass t = refl
 head-msgid Lapse t = refl
 
-head-mark : (m : Msgid) (t : List ℕ) → behindMark (headOf m ++ t) ≡ t
+pub head-mark : (m : Msgid) (t : List ℕ) → behindMark (headOf m ++ t) ≡ t
 unfolding decimal digits behindMark
 head-mark Grant t = refl
 head-mark Deny t = refl
@@ -47,7 +47,14 @@ person-mark : (t : List ℕ) → behindMark (personMark ++ t) ≡ t
 unfolding behindMark
 person-mark t = refl
 
-held-stops : (reason held : ℕ) → Stops (heldPart reason held)
+-- what stands behind the door's number and the mark of the person, and behind the mark that follows the person's
+door-passed : (door : ℕ) (last : List ℕ) → behindMark (decimal door ++ (personMark ++ last)) ≡ last
+door-passed door last = skips behindMark digit-no-mark door (personMark ++ last) ∙ person-mark last
+
+pub both-passed : (door person : ℕ) (end : List ℕ) → behindMark (behindMark (decimal door ++ (personMark ++ (decimal person ++ end)))) ≡ behindMark end
+both-passed door person end = ap behindMark (door-passed door (decimal person ++ end)) ∙ skips behindMark digit-no-mark person end
+
+pub held-stops : (reason held : ℕ) → Stops (heldPart reason held)
 unfolding isDigit andAlso
 held-stops reason held = by-held Stops reason held (λ _. at-byte {b = 32} refl) (λ _. at-end)
 
@@ -76,11 +83,11 @@ held-mark Deny reason held f g = ap numberFrom (skips behindMark digit-no-mark r
 held-mark Pass reason held f g = none-held reason held f g
 held-mark Lapse reason held f g = none-held reason held f g
 
-blank-stops : (t : List ℕ) → Stops (personMark ++ t)
+pub blank-stops : (t : List ℕ) → Stops (personMark ++ t)
 unfolding isDigit andAlso
 blank-stops t = at-byte {b = 32} refl
 
-reason-stops : (m : Msgid) (reason held : ℕ) → Stops (reasonPart m reason held)
+pub reason-stops : (m : Msgid) (reason held : ℕ) → Stops (reasonPart m reason held)
 unfolding isDigit andAlso
 reason-stops Grant reason held = at-end
 reason-stops Deny reason held = at-byte {b = 32} refl
@@ -92,7 +99,7 @@ guess-is : (e : LineEvent) → Fits e → (t : List ℕ) → msgidIn t ≡ e .ms
 guess-is e f t m b =
     let end = reasonPart (e .msgid) (e .reason) (e .held) in
     let last = decimal (e .person) ++ end in
-    let two : behindMark (tailOf e) ≡ last = skips behindMark digit-no-mark (e .door) (personMark ++ last) ∙ person-mark last in
+    let two : behindMark (tailOf e) ≡ last = door-passed (e .door) last in
     let three : behindMark last ≡ behindMark end = skips behindMark digit-no-mark (e .person) end in
     let door : numberFrom (tailOf e) ≡ e .door = number-back (e .door) (omega (arith, f .door)) (blank-stops last) in
     let person : numberFrom last ≡ e .person = number-back (e .person) (omega (arith, f .person)) (reason-stops (e .msgid) (e .reason) (e .held)) in

@@ -1,16 +1,17 @@
--- What the theorems of proofs/Theorems.antt say, where that takes more than a line. 02, C-11, and the RFCs.
+-- What the theorems of proofs/Theorems.antt say, where that takes more than a line. 02, C-11 and C-12, and the RFCs.
 use Prim.Native.Nat.{ℕ, _+_, _*_}
 use mathlib.Core.Path.{_≡_}
-use mathlib.Core.List.{List, [], _∷_}
+use mathlib.Core.List.{List, [], _∷_, _++_}
 use lib.ListN.{length, take}
 use Rattle.text.specs.Text.{decimal}
+use Rattle.syslog.specs.declared.Msgid.the-variants.{Deny}
 use Rattle.syslog.specs.declared.LineEvent.{LineEvent}
 use Rattle.syslog.specs.declared.LineWritten.the-variants as writing
 use Rattle.syslog.specs.declared.LineRead.{LineRead}
 use Rattle.syslog.specs.declared.LineRead.the-variants as line
 use Rattle.syslog.specs.declared.FrameRead.{FrameRead}
 use Rattle.syslog.specs.declared.FrameRead.the-variants as frame
-use Rattle.syslog.specs.Line.{facility, severityOf, nameOf, messageOf, lineOf, framedOf}
+use Rattle.syslog.specs.Line.{facility, severityOf, nameOf, personMark, reasonMark, heldMark, messageOf, lineOf, headOf, framedOf, Fits}
 use Rattle.syslog.specs.Rfc.{numberSaid, Priority, nilValue, SyslogMsg, IsSyslogMsg, IsFrame}
 use Rattle.syslog.specs.Reading.{LineIs, ReadsLine, FrameAt}
 use Rattle.syslog.specs.Lent.{Writes}
@@ -64,3 +65,19 @@ pub record OnlyFramesRead (s : List ℕ) (at : ℕ) (told : FrameRead) : Type 0 
   pub end-back : at ≡ length s → told ≡ frame.End
   pub refused-yes : told ≡ frame.NotOurs → (at ≡ length s → ⊥) × ((e : LineEvent) (next : ℕ) → FrameAt s at e next → ⊥)
   pub refused-back : (at ≡ length s → ⊥) → ((e : LineEvent) (next : ℕ) → FrameAt s at e next → ⊥) → told ≡ frame.NotOurs
+
+-- a denial with reason 3 that ends there
+abbrev pub withoutHeld : ℕ → ℕ → List ℕ
+withoutHeld door person = headOf Deny ++ (decimal door ++ (personMark ++ (decimal person ++ (reasonMark ++ decimal 3))))
+
+-- ` held=` and a door
+abbrev pub heldText : ℕ → List ℕ
+heldText held = heldMark ++ decimal held
+
+-- C-12: "DENY lines with reason 3 end in ` held=` and the door", "reading, 15 without it"
+pub record HeldTold : Type 0 where
+  pub ends-in-it : (door person held : ℕ)
+      → lineOf (record { msgid = Deny; door = door; person = person; reason = 3; held = held }) ≡ withoutHeld door person ++ heldText held
+  pub not-without : (door person : ℕ) → ReadsLine (withoutHeld door person) line.NotOurs
+  -- and behind no line stands another: not behind one with another reason, nor behind one that is no denial
+  pub nowhere-else : (e : LineEvent) (held : ℕ) → Fits e → ReadsLine (lineOf e ++ heldText held) line.NotOurs
