@@ -12,12 +12,12 @@ use syslog::Msgid;
 use syslog_read::read_frame;
 use syslog_read::read_line;
 
-const MOST_BYTES: usize = 100000;
+const MOST_BYTES: usize = 160000;
 
 const LF: u8 = 10;
 
 fn blank() -> [u8; MOST_BYTES]
-    ensures { λ r. ⌜ length r ≡ 100000 ⌝ }
+    ensures { λ r. ⌜ length r ≡ 160000 ⌝ }
 {
     [0; MOST_BYTES]
 }

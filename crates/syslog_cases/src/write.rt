@@ -8,11 +8,8 @@ use syslog_write::write_line;
 
 const ROOM: usize = 64;
 
-// Four MSGIDs, five reasons, five doors and five persons, no door being held.
-const NONE_HELD: usize = 500;
-
-// Then four MSGIDs, five reasons and five held doors.
-const EVENTS: usize = 600;
+// Four MSGIDs, five reasons, five doors, five persons and five held doors.
+const EVENTS: usize = 2500;
 
 // What an event is written as.
 enum Form {
@@ -51,34 +48,15 @@ fn msgid_tried(n: usize) -> Msgid {
     }
 }
 
-fn none_held(n: usize) -> LineEvent {
-    let msgid = msgid_tried(n / 125);
+fn event_tried(n: usize) -> LineEvent {
+    let msgid = msgid_tried(n / 625);
     LineEvent {
         msgid,
-        door: number_tried(n / 5 % 5),
-        person: number_tried(n % 5),
-        reason: n / 25 % 5,
-        held: 0,
-    }
-}
-
-// The last door and the last person, so that the longest line is among these.
-fn held_tried(n: usize) -> LineEvent {
-    let msgid = msgid_tried(n / 25);
-    LineEvent {
-        msgid,
-        door: 63,
-        person: 63,
-        reason: n / 5 % 5,
+        door: number_tried(n / 25 % 5),
+        person: number_tried(n / 5 % 5),
+        reason: n / 125 % 5,
         held: number_tried(n % 5),
     }
-}
-
-fn event_tried(n: usize) -> LineEvent {
-    if n < NONE_HELD {
-        return none_held(n);
-    }
-    held_tried(n - NONE_HELD)
 }
 
 fn write_as(form: Form, event: LineEvent, out: &mut [u8]) -> LineWritten {

@@ -8,7 +8,7 @@ abbrev Inv-loop : tie.InvT-loop
 Inv-loop n₀ n = Unit {0}
 
 abbrev μ-loop : tie.MeasureT-loop
-μ-loop n₀ n = 600 - n
+μ-loop n₀ n = 2500 - n
 
 pub write-events-spec : {M : Type 1} → statement M
 write-events-spec =
