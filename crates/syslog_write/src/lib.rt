@@ -16,7 +16,7 @@ use text::write::put;
 use text::write::put_bytes;
 use text::write::put_number;
 
-// The largest door and person of a line.
+// The largest door, person and held door of a line.
 const MOST_NUMBER: usize = 63;
 
 // The reason that is told with the door that holds the grant.
