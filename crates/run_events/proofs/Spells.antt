@@ -26,7 +26,7 @@ use Rattle.run_events.proofs.Steps.{heardLine, done-means, not-done, af
 
 -- ---- something happens only to a card
 
-differ : _≡_ {A = ℕ} 0 1 → ⊥
+pub differ : _≡_ {A = ℕ} 0 1 → ⊥
 differ e = omega arith
 
 -- at a door where something may happen to a card there is one
