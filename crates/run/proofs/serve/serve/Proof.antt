@@ -36,46 +36,46 @@ decode-requires c κs = search needs
 
 array-share-prefix-kinds : tie.Need-array-share-prefix-kinds
 array-share-prefix-kinds c =
-    let a = c .before .before .before .before .before .before .before .before .before .before .before .before .before .before .args in
+    let a = c .before .before .before .before .before .before .before .before .before .before .before .before .before .before .before .args in
     let few = few-counted (a .s .now) (a .from) _ (c .before .before .before .decode .ensures .0) in
-    let short = c .before .before .before .before .before .before .before .before .before .before .before .before .before .before .pre .1 .0 in
+    let short = c .before .before .before .before .before .before .before .before .before .before .before .before .before .before .before .pre .1 .0 in
     search needs
 
 slice-aggregate-run : tie.Need-slice-aggregate-run
 slice-aggregate-run c =
-    let a = c .before .before .before .before .before .before .before .before .before .before .before .before .before .before .before .args in
+    let a = c .before .before .before .before .before .before .before .before .before .before .before .before .before .before .before .before .args in
     let few = few-counted (a .s .now) (a .from) _ (c .before .before .before .before .decode .ensures .0) in
-    let short = c .before .before .before .before .before .before .before .before .before .before .before .before .before .before .before .pre .1 .0 in
+    let short = c .before .before .before .before .before .before .before .before .before .before .before .before .before .before .before .before .pre .1 .0 in
     let long : mostSteps ≡ length (c .before .before .before .before .decode .last .1 .1 .0) = search needs in
     sym (length-take-le _ _ (omega arith))
 
 array-share-prefix-doors : tie.Need-array-share-prefix-doors
 array-share-prefix-doors c =
-    let a = c .before .before .before .before .before .before .before .before .before .before .before .before .before .before .before .args in
+    let a = c .before .before .before .before .before .before .before .before .before .before .before .before .before .before .before .before .args in
     let few = few-counted (a .s .now) (a .from) _ (c .before .before .before .before .decode .ensures .0) in
-    let short = c .before .before .before .before .before .before .before .before .before .before .before .before .before .before .before .pre .1 .0 in
+    let short = c .before .before .before .before .before .before .before .before .before .before .before .before .before .before .before .before .pre .1 .0 in
     search needs
 
 slice-aggregate-run-2 : tie.Need-slice-aggregate-run-2
 slice-aggregate-run-2 c =
-    let a = c .before .before .before .before .before .before .before .before .before .before .before .before .before .before .before .before .args in
+    let a = c .before .before .before .before .before .before .before .before .before .before .before .before .before .before .before .before .before .args in
     let few = few-counted (a .s .now) (a .from) _ (c .before .before .before .before .before .decode .ensures .0) in
-    let short = c .before .before .before .before .before .before .before .before .before .before .before .before .before .before .before .before .pre .1 .0 in
+    let short = c .before .before .before .before .before .before .before .before .before .before .before .before .before .before .before .before .before .pre .1 .0 in
     let long : mostSteps ≡ length (c .before .before .before .before .before .decode .last .1 .1 .1 .0) = search needs in
     sym (length-take-le _ _ (omega arith))
 
 array-share-prefix-persons : tie.Need-array-share-prefix-persons
 array-share-prefix-persons c =
-    let a = c .before .before .before .before .before .before .before .before .before .before .before .before .before .before .before .before .args in
+    let a = c .before .before .before .before .before .before .before .before .before .before .before .before .before .before .before .before .before .args in
     let few = few-counted (a .s .now) (a .from) _ (c .before .before .before .before .before .decode .ensures .0) in
-    let short = c .before .before .before .before .before .before .before .before .before .before .before .before .before .before .before .before .pre .1 .0 in
+    let short = c .before .before .before .before .before .before .before .before .before .before .before .before .before .before .before .before .before .pre .1 .0 in
     search needs
 
 slice-aggregate-run-3 : tie.Need-slice-aggregate-run-3
 slice-aggregate-run-3 c =
-    let a = c .before .before .before .before .before .before .before .before .before .before .before .before .before .before .before .before .before .args in
+    let a = c .before .before .before .before .before .before .before .before .before .before .before .before .before .before .before .before .before .before .args in
     let few = few-counted (a .s .now) (a .from) _ (c .before .before .before .before .before .before .decode .ensures .0) in
-    let short = c .before .before .before .before .before .before .before .before .before .before .before .before .before .before .before .before .before .pre .1 .0 in
+    let short = c .before .before .before .before .before .before .before .before .before .before .before .before .before .before .before .before .before .before .pre .1 .0 in
     let long : mostSteps ≡ length (c .before .before .before .before .before .before .decode .last .1 .1 .1 .1 .0) = search needs in
     sym (length-take-le _ _ (omega arith))
 
@@ -96,14 +96,14 @@ same-length-4 c = search needs
 
 returns : tie.Need-returns
 returns c =
-    let a = c .before .before .before .before .before .before .before .before .before .before .before .before .before .before .before .before .before .before .before .before .before .before .before .before .before .before .before .before .args in
-    let p = c .before .before .before .before .before .before .before .before .before .before .before .before .before .before .before .before .before .before .before .before .before .before .before .before .before .before .before .before .pre in
-    let decoded = c .before .before .before .before .before .before .before .before .before .before .before .before .before .before .before .before .before .decode .result in
-    let d = c .before .before .before .before .before .before .before .before .before .before .before .before .before .before .before .before .before .decode .ensures in
+    let a = c .before .before .before .before .before .before .before .before .before .before .before .before .before .before .before .before .before .before .before .before .before .before .before .before .before .before .before .before .before .before .before .before .args in
+    let p = c .before .before .before .before .before .before .before .before .before .before .before .before .before .before .before .before .before .before .before .before .before .before .before .before .before .before .before .before .before .before .before .before .pre in
+    let decoded = c .before .before .before .before .before .before .before .before .before .before .before .before .before .before .before .before .before .before .before .before .decode .result in
+    let d = c .before .before .before .before .before .before .before .before .before .before .before .before .before .before .before .before .before .before .before .before .decode .ensures in
     let steps = stepsFrom (a .s .now) (a .from) in
-    let kinds = c .before .before .before .before .before .before .before .before .before .before .before .before .before .before .before .before .before .before .before .before .before .before .before .blank-bytes in
-    let doors = c .before .before .before .before .before .before .before .before .before .before .before .before .before .before .before .before .before .before .before .before .before .before .blank-numbers in
-    let persons = c .before .before .before .before .before .before .before .before .before .before .before .before .before .before .before .before .before .before .before .before .before .blank-numbers2 in
+    let kinds = c .before .before .before .before .before .before .before .before .before .before .before .before .before .before .before .before .before .before .before .before .before .before .before .before .before .before .blank-bytes in
+    let doors = c .before .before .before .before .before .before .before .before .before .before .before .before .before .before .before .before .before .before .before .before .before .before .before .before .before .blank-numbers in
+    let persons = c .before .before .before .before .before .before .before .before .before .before .before .before .before .before .before .before .before .before .before .before .before .before .before .before .blank-numbers2 in
     let room = room-most (length (a .s .now)) _ _ _ (p .1 .0) (kinds .ensures) (doors .ensures) (persons .ensures) in
     let count = count-is steps _ room (d .0) in
     let whole = whole-is steps _ room (d .0) in
@@ -114,7 +114,7 @@ returns c =
     let hp : length (steps .rows) ≤ length (a .phases .now) = omega (arith, p .1 .1 .1) in
     let hr : length (steps .rows) ≤ length (a .reasons .now) = omega (arith, p .1 .1 .2) in
     let hh : length (steps .rows) ≤ length (a .held .now) = omega (arith, p .1 .1 .3) in
-    let e = c .before .before .before .before .before .before .before .run .ensures in
+    let e = c .before .before .before .before .before .before .before .before .before .run .ensures in
     let next = ran-steps (a .fresh) steps (a .answers .now) (a .phases .now) (a .reasons .now) (a .held .now) (p .0) ha hp hr hh lists (e .0) in (
       rw (next, count, whole),
       (

@@ -4,7 +4,7 @@ use mathlib.Core.List.{map}
 use native.Mathlib.Omega.{arith}
 use lib.ListN.{length, take}
 use lib.Seq.{length-take-le}
-use Rattle.record.specs.Run.{repliesOf, answerTold, phaseTold, reasonTold}
+use Rattle.record.specs.Run.{repliesOf, answerTold, phaseTold, reasonTold, heldTold}
 use Rattle.run_text.specs.declared.serve.Served.{Served}
 use Rattle.steps_sheet.specs.Steps.{stepsFrom}
 use Rattle.steps_sheet.specs.Lent.{mostSteps}
@@ -22,6 +22,9 @@ blank-bytes-requires-2 c κs = search needs
 blank-bytes-requires-3 : tie.Need-blank-bytes-requires-3
 blank-bytes-requires-3 c κs = search needs
 
+blank-doors-requires : tie.Need-blank-doors-requires
+blank-doors-requires c κs = search needs
+
 slice-aggregate-serve : tie.Need-slice-aggregate-serve
 slice-aggregate-serve c = search needs
 
@@ -31,16 +34,19 @@ slice-aggregate-serve-2 c = search needs
 slice-aggregate-serve-3 : tie.Need-slice-aggregate-serve-3
 slice-aggregate-serve-3 c = search needs
 
+slice-aggregate-serve-4 : tie.Need-slice-aggregate-serve-4
+slice-aggregate-serve-4 c = search needs
+
 serve-requires : tie.Need-serve-requires
-serve-requires c κs = let p = c .before .before .before .before .before .before .before .before .pre in (p .0, (p .1, (omega arith, omega arith, omega arith)))
+serve-requires c κs = let p = c .before .before .before .before .before .before .before .before .before .before .pre in (p .0, (p .1, (omega arith, omega arith, omega arith, omega arith)))
 
 array-share-prefix-answers : tie.Need-array-share-prefix-answers
 array-share-prefix-answers c = search needs
 
 slice-aggregate-print-run : tie.Need-slice-aggregate-print-run
 slice-aggregate-print-run c =
-    let few = c .before .before .before .before .serve .ensures .1 .0 in
-    let long : mostSteps ≡ length (c .before .before .before .before .serve .last .1 .1 .1 .0) = search needs in
+    let few = c .before .before .before .before .before .serve .ensures .1 .0 in
+    let long : mostSteps ≡ length (c .before .before .before .before .before .serve .last .1 .1 .1 .0) = search needs in
     sym (length-take-le _ _ (omega arith))
 
 array-share-prefix-phases : tie.Need-array-share-prefix-phases
@@ -48,8 +54,8 @@ array-share-prefix-phases c = search needs
 
 slice-aggregate-print-run-2 : tie.Need-slice-aggregate-print-run-2
 slice-aggregate-print-run-2 c =
-    let few = c .before .before .before .before .before .serve .ensures .1 .0 in
-    let long : mostSteps ≡ length (c .before .before .before .before .before .serve .last .1 .1 .1 .1 .0) = search needs in
+    let few = c .before .before .before .before .before .before .serve .ensures .1 .0 in
+    let long : mostSteps ≡ length (c .before .before .before .before .before .before .serve .last .1 .1 .1 .1 .0) = search needs in
     sym (length-take-le _ _ (omega arith))
 
 array-share-prefix-reasons : tie.Need-array-share-prefix-reasons
@@ -57,40 +63,53 @@ array-share-prefix-reasons c = search needs
 
 slice-aggregate-print-run-3 : tie.Need-slice-aggregate-print-run-3
 slice-aggregate-print-run-3 c =
-    let few = c .before .before .before .before .before .before .serve .ensures .1 .0 in
-    let long : mostSteps ≡ length (c .before .before .before .before .before .before .serve .last .1 .1 .1 .1 .1 .0) = search needs in
+    let few = c .before .before .before .before .before .before .before .serve .ensures .1 .0 in
+    let long : mostSteps ≡ length (c .before .before .before .before .before .before .before .serve .last .1 .1 .1 .1 .1 .0) = search needs in
+    sym (length-take-le _ _ (omega arith))
+
+array-share-prefix-held : tie.Need-array-share-prefix-held
+array-share-prefix-held c = search needs
+
+slice-aggregate-print-run-4 : tie.Need-slice-aggregate-print-run-4
+slice-aggregate-print-run-4 c =
+    let few = c .before .before .before .before .before .before .before .before .serve .ensures .1 .0 in
+    let long : mostSteps ≡ length (c .before .before .before .before .before .before .before .before .serve .last .1 .1 .1 .1 .1 .1 .0) = search needs in
     sym (length-take-le _ _ (omega arith))
 
 print-run-requires : tie.Need-print-run-requires
 print-run-requires c κs =
-    let few = c .before .before .before .before .before .before .before .serve .ensures .1 .0 in
-    let count = c .before .before .before .before .before .before .before .serve .result .count in
-    let la : mostSteps ≡ length (c .before .before .before .before .before .before .before .serve .last .1 .1 .1 .0) = search needs in
-    let lp : mostSteps ≡ length (c .before .before .before .before .before .before .before .serve .last .1 .1 .1 .1 .0) = search needs in
-    let lr : mostSteps ≡ length (c .before .before .before .before .before .before .before .serve .last .1 .1 .1 .1 .1 .0) = search needs in
-    let a = length-take-le count (c .before .before .before .before .before .before .before .serve .last .1 .1 .1 .0) (omega arith) in
-    let p = length-take-le count (c .before .before .before .before .before .before .before .serve .last .1 .1 .1 .1 .0) (omega arith) in
-    let r = length-take-le count (c .before .before .before .before .before .before .before .serve .last .1 .1 .1 .1 .1 .0) (omega arith) in
-    (p ∙ sym a, r ∙ sym a)
+    let s = c .before .before .before .before .before .before .before .before .before .serve in
+    let few = s .ensures .1 .0 in
+    let la : mostSteps ≡ length (s .last .1 .1 .1 .0) = search needs in
+    let lp : mostSteps ≡ length (s .last .1 .1 .1 .1 .0) = search needs in
+    let lr : mostSteps ≡ length (s .last .1 .1 .1 .1 .1 .0) = search needs in
+    let lh : mostSteps ≡ length (s .last .1 .1 .1 .1 .1 .1 .0) = search needs in
+    let a = length-take-le (s .result .count) (s .last .1 .1 .1 .0) (omega arith) in
+    let p = length-take-le (s .result .count) (s .last .1 .1 .1 .1 .0) (omega arith) in
+    let r = length-take-le (s .result .count) (s .last .1 .1 .1 .1 .1 .0) (omega arith) in
+    let h = length-take-le (s .result .count) (s .last .1 .1 .1 .1 .1 .1 .0) (omega arith) in
+    (p ∙ sym a, r ∙ sym a, h ∙ sym a)
 
 same-length : tie.Need-same-length
 same-length c = search needs
 
 returns : tie.Need-returns
 returns c =
-    let a = c .before .before .before .before .before .before .before .before .before .before .before .before .before .before .before .before .before .before .before .args in
-    let s = c .before .before .before .before .before .before .before .before .before .before .serve in
+    let a = c .before .before .before .before .before .before .before .before .before .before .before .before .before .before .before .before .before .before .before .before .before .before .before .args in
+    let s = c .before .before .before .before .before .before .before .before .before .before .before .before .serve in
     let steps = stepsFrom (a .s .now) (a .from) in
     let few = s .ensures .1 .0 in
-    let in-answers = c .before .before .before .before .before .before .before .before .before .before .before .before .before .before .before .before .blank-bytes in
-    let in-phases = c .before .before .before .before .before .before .before .before .before .before .before .before .before .before .before .blank-bytes2 in
-    let in-reasons = c .before .before .before .before .before .before .before .before .before .before .before .before .before .before .blank-bytes3 in
+    let in-answers = c .before .before .before .before .before .before .before .before .before .before .before .before .before .before .before .before .before .before .before .before .blank-bytes in
+    let in-phases = c .before .before .before .before .before .before .before .before .before .before .before .before .before .before .before .before .before .before .before .blank-bytes2 in
+    let in-reasons = c .before .before .before .before .before .before .before .before .before .before .before .before .before .before .before .before .before .before .blank-bytes3 in
+    let in-held = c .before .before .before .before .before .before .before .before .before .before .before .before .before .before .before .before .before .blank-doors in
     let count : s .result .count ≡ length (steps .rows) = ap (λ (x : Served). x .count) (s .ensures .0) in
     let whole : s .result .whole ≡ steps .whole = ap (λ (x : Served). x .whole) (s .ensures .0) in
     let answers : take (s .result .count) (s .last .1 .1 .1 .0) ≡ map answerTold (repliesOf (a .fresh) (steps .rows)) = front-of _ (in-answers .result) (count ∙ sym (told-length answerTold (a .fresh) (steps .rows))) (omega (arith, in-answers .ensures)) (s .ensures .1 .1 .0) in
     let phases : take (s .result .count) (s .last .1 .1 .1 .1 .0) ≡ map phaseTold (repliesOf (a .fresh) (steps .rows)) = front-of _ (in-phases .result) (count ∙ sym (told-length phaseTold (a .fresh) (steps .rows))) (omega (arith, in-phases .ensures)) (s .ensures .1 .1 .1 .0) in
-    let reasons : take (s .result .count) (s .last .1 .1 .1 .1 .1 .0) ≡ map reasonTold (repliesOf (a .fresh) (steps .rows)) = front-of _ (in-reasons .result) (count ∙ sym (told-length reasonTold (a .fresh) (steps .rows))) (omega (arith, in-reasons .ensures)) (s .ensures .1 .1 .1 .1) in
-    rw (answers, phases, reasons, whole, parts-back (repliesOf (a .fresh) (steps .rows))) at (c .before .before .print-run .ensures)
+    let reasons : take (s .result .count) (s .last .1 .1 .1 .1 .1 .0) ≡ map reasonTold (repliesOf (a .fresh) (steps .rows)) = front-of _ (in-reasons .result) (count ∙ sym (told-length reasonTold (a .fresh) (steps .rows))) (omega (arith, in-reasons .ensures)) (s .ensures .1 .1 .1 .1 .0) in
+    let held : take (s .result .count) (s .last .1 .1 .1 .1 .1 .1 .0) ≡ map heldTold (repliesOf (a .fresh) (steps .rows)) = front-of _ (in-held .result) (count ∙ sym (told-length heldTold (a .fresh) (steps .rows))) (omega (arith, in-held .ensures)) (s .ensures .1 .1 .1 .1 .1) in
+    rw (answers, phases, reasons, held, whole, parts-back (repliesOf (a .fresh) (steps .rows))) at (c .before .before .print-run .ensures)
 
 pub print-steps-spec : {M : Type 1} → statement M
 print-steps-spec =
@@ -99,9 +118,11 @@ print-steps-spec =
     blank-bytes-requires
     blank-bytes-requires-2
     blank-bytes-requires-3
+    blank-doors-requires
     slice-aggregate-serve
     slice-aggregate-serve-2
     slice-aggregate-serve-3
+    slice-aggregate-serve-4
     serve-requires
     array-share-prefix-answers
     slice-aggregate-print-run
@@ -109,6 +130,8 @@ print-steps-spec =
     slice-aggregate-print-run-2
     array-share-prefix-reasons
     slice-aggregate-print-run-3
+    array-share-prefix-held
+    slice-aggregate-print-run-4
     print-run-requires
     same-length
     returns)

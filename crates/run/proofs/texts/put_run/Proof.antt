@@ -25,7 +25,7 @@ same-length c = search needs
 
 returns : tie.Need-returns
 returns c =
-    let a = c .before .before .before .before .before .before .before .before .before .before .before .before .before .before .args in
+    let a = c .before .before .before .before .before .before .before .before .before .before .before .before .before .before .before .args in
     let rows = last (more (begun (omega arith) (omega arith)) refl (c .before .before .before .before .before .before .before .put-bytes .ensures)) (c .before .before .before .put-answers .ensures) in
     said (run-whole (repliesFrom (a .answers .now) (a .phases .now) (a .reasons .now) (a .held .now)) (c .if1 .taken)) rows
 
@@ -43,9 +43,9 @@ same-length-2 c = search needs
 
 returns-2 : tie.Need-returns-2
 returns-2 c =
-    let a = c .before .before .before .before .before .before .before .before .before .before .before .before .before .before .before .before .before .before .before .args in
+    let a = c .before .before .before .before .before .before .before .before .before .before .before .before .before .before .before .before .before .before .before .before .args in
     let rows = more (more (begun (omega arith) (omega arith)) refl (c .before .before .before .before .before .before .before .before .before .before .before .before .put-bytes .ensures)) refl (c .before .before .before .before .before .before .before .before .put-answers .ensures) in
-    let p = c .before .before .before .before .before .before .before .before .before .before .before .before .before .before .before .before .before .before .before .pre in
+    let p = c .before .before .before .before .before .before .before .before .before .before .before .before .before .before .before .before .before .before .before .before .pre in
     said (run-broken (repliesFrom (a .answers .now) (a .phases .now) (a .reasons .now) (a .held .now)) (from-length (a .answers .now) (a .phases .now) (a .reasons .now) (a .held .now) (p .0) (p .1) (p .2)) (c .before .before .before .before .before .if1 .left)) (last rows (c .before .before .put-row .ensures))
 
 pub put-run-spec : {M : Type 1} → statement M
