@@ -25,7 +25,8 @@ use Rattle.record.specs.declared.record.Record.{Record}
 use Rattle.record.specs.declared.steps.Step.{Step}
 use Rattle.record.specs.Doors.{doorOf, Shaped}
 use Rattle.record.specs.Sound.{Sound}
-use Rattle.record.specs.Steps.{reasonFor, act, refused, doing}
+use Rattle.granting.specs.Reasons.{heldWith}
+use Rattle.record.specs.Steps.{reasonFor, heldFor, act, refused, doing}
 use Rattle.record.specs.Run.{Reply, rowOf, lastOf, repliesOf}
 use Rattle.record.proofs.Laws.{becomes, Allowed, step-cases, allowed-does, others-stay, act-done, sound-stays, shaped-stays}
 use Rattle.run_events.specs.Lines.{Line, linesOf, heardOf}
@@ -37,12 +38,12 @@ use Rattle.card_by_card.specs.Serving.{endsCard, recorded}
 use Rattle.card_by_card.specs.Served.{doneBy, doneAt, eventsAt, takenBy, personOf, openOf, decisionBy, grantedReply, deniedReply, grantOpen}
 
 -- what a step that is done in row n, at door d, records of the person whom the door holds
-abbrev pub recordedBy : ℕ → ℕ → ℕ → Kind → ℕ → List RunEvent
-recordedBy n d holder k why = recorded (map (event n d holder) (whatBy k why))
+abbrev pub recordedBy : ℕ → ℕ → ℕ → Kind → ℕ → ℕ → List RunEvent
+recordedBy n d holder k why held = recorded (map (event n d holder) (whatBy k why held))
 
--- the line of a step that does x at its door, which was c
-abbrev pub lineBy : Kind → ℕ → ℕ → Door → Does → Line
-lineBy k d p c x = record { row = record { kind = k; at = d; person = p }; reply = doneReply c x }
+-- the line of a step that does x at its door, which was c, `held` being the door that is told with each reason
+abbrev pub lineBy : (ℕ → ℕ) → Kind → ℕ → ℕ → Door → Does → Line
+lineBy held k d p c x = record { row = record { kind = k; at = d; person = p }; reply = doneReply held c x }
 
 pub recorded-both : (es fs : List RunEvent) → recorded (es ++ fs) ≡ recorded es ++ recorded fs
 unfolding recorded
@@ -54,18 +55,18 @@ recorded-both (e ∷ es) fs =
 -- an account: what lines say, what events say, and what is open at a door
 module _ {A : Type 0} (say : Line → List A) (ends : RunEvent → List A) (left : Standing → List A) where
   -- the account of a step that does x at door d, which was c
-  pub record Account (n d p why : ℕ) (c : Door) (k : Kind) (x : Does) : Type 0 where
-    pub all : left (standingAt c) ++ say (lineBy k d p c x) ≡ eventsAt ends d (recordedBy n d (c .holder) k why) ++ left (standingAt (becomes c x))
+  pub record Account (held : ℕ → ℕ) (n d p why : ℕ) (c : Door) (k : Kind) (x : Does) : Type 0 where
+    pub all : left (standingAt c) ++ say (lineBy held k d p c x) ≡ eventsAt ends d (recordedBy n d (c .holder) k why (held why)) ++ left (standingAt (becomes c x))
 
-  -- fair at each step that is done
+  -- fair at each step that is done, where no door is told without a reason
   pub record Fair : Type 0 where
-    pub each : (n d p why : ℕ) (c : Door) (k : Kind) → allows k (c .phase) ≡ true → Account n d p why c k (effect k p why c)
+    pub each : (held : ℕ → ℕ) → held 0 ≡ 0 → (n d p why : ℕ) (c : Door) (k : Kind) → allows k (c .phase) ≡ true → Account held n d p why c k (effect k p why c)
 
   -- a step of which nothing is said, that records nothing and leaves open what was open
-  goes-on : (n d p why : ℕ) (c : Door) {k : Kind} {x : Does} → say (lineBy k d p c x) ≡ [] → whatBy k why ≡ [] → standingAt (becomes c x) ≡ standingAt c
-      → Account n d p why c k x
+  goes-on : (held : ℕ → ℕ) (n d p why : ℕ) (c : Door) {k : Kind} {x : Does} → say (lineBy held k d p c x) ≡ [] → whatBy k why (held why) ≡ []
+      → standingAt (becomes c x) ≡ standingAt c → Account held n d p why c k x
   unfolding recorded eventsAt
-  goes-on n d p why c quiet none same = record { all = rw (quiet, none, same) (append-nil (left (standingAt c))) }
+  goes-on held n d p why c quiet none same = record { all = rw (quiet, none, same) (append-nil (left (standingAt c))) }
 
   -- what a line says elsewhere, and what is recorded there: nothing
   none-said : (line : Line) (d : ℕ) → (d ≡ line .row .at → ⊥) → doneBy say d line ≡ []
@@ -107,23 +108,28 @@ module _ {A : Type 0} (say : Line → List A) (ends : RunEvent → List A) (left
       abbrev z : Step
       z = act r (row .at) x
 
+      -- the door that the record tells with each reason
+      abbrev told-with : ℕ → ℕ
+      told-with = heldFor r (getD (r .holder) (row .at) 0)
+
       done : eqb (answerNo (z .answer)) 0 ≡ true
       done = ap (λ (a : Answer). eqb (answerNo a) 0) (act-done r (row .at) x)
 
-      said-here : doneBy say (row .at) (heardLine row z) ≡ say (lineBy (row .kind) (row .at) (row .person) (doorOf r (row .at)) x)
+      said-here : doneBy say (row .at) (heardLine row z) ≡ say (lineBy told-with (row .kind) (row .at) (row .person) (doorOf r (row .at)) x)
       unfolding doneBy andAlso
       said-here = rw (eq-eqb (row .at) (row .at) refl, done) (ap (λ (reply : Reply). say (record { row = row; reply = reply })) (act-reply r (row .at) x))
 
       -- at the step's own door
       here : openAt r (row .at) ++ doneBy say (row .at) (heardLine row z) ≡ eventsAt ends (row .at) (recorded (seenOf n r row z)) ++ openAt (z .next) (row .at)
+      unfolding heldWith
       here =
           rw (said-here, done, door-here r (row .kind) (row .at) (row .person) sh s w)
-          (fair .each n (row .at) (row .person) _ (doorOf r (row .at)) (row .kind) (w .allowed) .all)
+          (fair .each told-with refl n (row .at) (row .person) _ (doorOf r (row .at)) (row .kind) (w .allowed) .all)
 
       -- and at every other
       there : (d : ℕ) → (d ≡ row .at → ⊥) → openAt r d ++ doneBy say d (heardLine row z) ≡ eventsAt ends d (recorded (seenOf n r row z)) ++ openAt (z .next) d
       there d ne =
-          rw (none-said (heardLine row z) d ne, done, none-ended n (row .at) (getD (r .holder) (row .at) 0) (whatBy (row .kind) (reasonFor r (row .at) (getD (r .holder) (row .at) 0))) d ne, rw (allowed-does r (row .kind) (row .at) (row .person) w) at (others-stay r (row .kind) (row .at) (row .person) d ne))
+          rw (none-said (heardLine row z) d ne, done, none-ended n (row .at) (getD (r .holder) (row .at) 0) (whatBy (row .kind) (reasonFor r (row .at) (getD (r .holder) (row .at) 0)) (told-with (reasonFor r (row .at) (getD (r .holder) (row .at) 0)))) d ne, rw (allowed-does r (row .kind) (row .at) (row .person) w) at (others-stay r (row .kind) (row .at) (row .person) d ne))
           (append-nil (openAt r d))
 
       kept-done : Kept n r row z
@@ -164,16 +170,16 @@ module _ {A : Type 0} (say : Line → List A) (ends : RunEvent → List A) (left
 -- the decision of a card that an event ends
 unfoldable pub decisionOf : What → List Reply
 decisionOf Grant = []
-decisionOf (Denial why) = deniedReply why ∷ []
+decisionOf (Denial why held) = deniedReply why held ∷ []
 decisionOf Passage = grantedReply ∷ []
 decisionOf Lapse = grantedReply ∷ []
 
 abbrev pub decisionEnds : RunEvent → List Reply
 decisionEnds e = decisionOf (e .what)
 
-module _ (n d p why : ℕ) (c : Door) where
+module _ (held : ℕ → ℕ) (unheld : held 0 ≡ 0) (n d p why : ℕ) (c : Door) where
   abbrev OfPersons : Kind → Does → Type 0
-  OfPersons k x = Account takenBy personOf openOf n d p why c k x
+  OfPersons k x = Account takenBy personOf openOf held n d p why c k x
 
   persons : (k : Kind) → allows k (c .phase) ≡ true → OfPersons k (effect k p why c)
   unfolding allows effect whatBy recorded endsCard takenBy eventsAt openOf standingAt grants orElse andAlso
@@ -183,18 +189,18 @@ module _ (n d p why : ℕ) (c : Door) where
       go : (t : Bool) → eqb why 0 ≡ t → c .phase ≡ read → OfPersons Decide (effect Decide p why c)
       go true e is = record { all = rw (e, is) }
       go false e is = record { all = rw (e, is, eq-eqb d d refl) }
-  persons Green ok = goes-on takenBy personOf openOf n d p why c refl refl (stands p why c a-green ok)
-  persons Red ok = goes-on takenBy personOf openOf n d p why c refl refl (stands p why c a-red ok)
-  persons Walk ok = goes-on takenBy personOf openOf n d p why c refl refl (stands p why c a-walk ok)
-  persons Tick ok = goes-on takenBy personOf openOf n d p why c refl refl (stands p why c a-tick ok)
+  persons Green ok = goes-on takenBy personOf openOf held n d p why c refl refl (stands p why c a-green ok)
+  persons Red ok = goes-on takenBy personOf openOf held n d p why c refl refl (stands p why c a-red ok)
+  persons Walk ok = goes-on takenBy personOf openOf held n d p why c refl refl (stands p why c a-walk ok)
+  persons Tick ok = goes-on takenBy personOf openOf held n d p why c refl refl (stands p why c a-tick ok)
   persons Passed ok = record { all = rw (eqb-true (c .phase) walked ok, eq-eqb d d refl) }
   persons Lapsed ok = record { all = rw (eqb-true (c .phase) expired ok, eq-eqb d d refl) }
-  persons Dark ok = goes-on takenBy personOf openOf n d p why c refl refl (stands p why c a-dark ok)
+  persons Dark ok = goes-on takenBy personOf openOf held n d p why c refl refl (stands p why c a-dark ok)
   persons Ack ok = record { all = rw (eqb-true (c .phase) closed ok) }
   persons Unknown ok = absurd (false≢true ok)
 
   abbrev OfDecisions : Kind → Does → Type 0
-  OfDecisions k x = Account decisionBy decisionEnds grantOpen n d p why c k x
+  OfDecisions k x = Account decisionBy decisionEnds grantOpen held n d p why c k x
 
   decisions : (k : Kind) → allows k (c .phase) ≡ true → OfDecisions k (effect k p why c)
   unfolding allows effect whatBy recorded endsCard decisionBy decisionOf eventsAt grantOpen standingAt grants orElse andAlso
@@ -202,15 +208,15 @@ module _ (n d p why : ℕ) (c : Door) where
   decisions Decide ok = go (eqb why 0) refl (eqb-true (c .phase) read ok)
     where
       go : (t : Bool) → eqb why 0 ≡ t → c .phase ≡ read → OfDecisions Decide (effect Decide p why c)
-      go true e is = record { all = rw (e, is) }
+      go true e is = record { all = rw (e, is, unheld) }
       go false e is = record { all = rw (e, is, eq-eqb d d refl) }
-  decisions Green ok = goes-on decisionBy decisionEnds grantOpen n d p why c refl refl (stands p why c a-green ok)
-  decisions Red ok = goes-on decisionBy decisionEnds grantOpen n d p why c refl refl (stands p why c a-red ok)
-  decisions Walk ok = goes-on decisionBy decisionEnds grantOpen n d p why c refl refl (stands p why c a-walk ok)
-  decisions Tick ok = goes-on decisionBy decisionEnds grantOpen n d p why c refl refl (stands p why c a-tick ok)
+  decisions Green ok = goes-on decisionBy decisionEnds grantOpen held n d p why c refl refl (stands p why c a-green ok)
+  decisions Red ok = goes-on decisionBy decisionEnds grantOpen held n d p why c refl refl (stands p why c a-red ok)
+  decisions Walk ok = goes-on decisionBy decisionEnds grantOpen held n d p why c refl refl (stands p why c a-walk ok)
+  decisions Tick ok = goes-on decisionBy decisionEnds grantOpen held n d p why c refl refl (stands p why c a-tick ok)
   decisions Passed ok = record { all = rw (eqb-true (c .phase) walked ok, eq-eqb d d refl) }
   decisions Lapsed ok = record { all = rw (eqb-true (c .phase) expired ok, eq-eqb d d refl) }
-  decisions Dark ok = goes-on decisionBy decisionEnds grantOpen n d p why c refl refl (stands p why c a-dark ok)
+  decisions Dark ok = goes-on decisionBy decisionEnds grantOpen held n d p why c refl refl (stands p why c a-dark ok)
   decisions Ack ok = record { all = rw (eqb-true (c .phase) closed ok) }
   decisions Unknown ok = absurd (false≢true ok)
 

@@ -41,20 +41,20 @@ alike-open Ended = Alike.end
 alike-event : (what : What) {xs ys : List Reply} → Alike xs ys → Alike (decisionOf what ++ xs) (decisionOf (servedAs what) ++ ys)
 unfolding decisionOf servedAs
 alike-event Grant on = on
-alike-event (Denial why) {xs} {ys} on = go (eqb why reasonBusy) refl
+alike-event (Denial why held) {xs} {ys} on = go (eqb why reasonBusy) refl
   where
-    go : (b : Bool) → eqb why reasonBusy ≡ b → Alike (decisionOf (Denial why) ++ xs) (decisionOf (cond b Lapse (Denial why)) ++ ys)
+    go : (b : Bool) → eqb why reasonBusy ≡ b → Alike (decisionOf (Denial why held) ++ xs) (decisionOf (cond b Lapse (Denial why held)) ++ ys)
     go true e = rw (eqb-true why reasonBusy e) (unused on)
     go false e = same (eqb-false why reasonBusy e) on
 alike-event Passage on = granted-same on
 alike-event Lapse on = granted-same on
 
 -- what a `decide` that is done answers is the decision
-answers : (z : Step) (what : What) → z .answer ≡ Done → Reads (z .phase) (z .reason) what → decisionOf what ≡ replyBy z ∷ []
+answers : (z : Step) (what : What) → z .answer ≡ Done → Reads (z .phase) (z .reason) (z .held) what → decisionOf what ≡ replyBy z ∷ []
 unfolding decisionOf
 answers z what done (denying is) = rw (done, is)
-answers z what done (passing is no-reason) = rw (done, is, no-reason)
-answers z what done (lapsing is no-reason) = rw (done, is, no-reason)
+answers z what done (passing is no-reason no-door) = rw (done, is, no-reason, no-door)
+answers z what done (lapsing is no-reason no-door) = rw (done, is, no-reason, no-door)
 
 second-acts : {r : Record} {a b : StepRow} {rows : List StepRow} → Acts r (a ∷ b ∷ rows) → rowOf (rowOf r a .next) b .answer ≡ Done
 second-acts (then _ (then done _)) = done

@@ -14,6 +14,7 @@ use Rattle.run_events.specs.Lines.{Line, heardOf}
 use Rattle.run_events.specs.Events.{RunEvent, noSpells, spellsIn}
 use Rattle.run_events.specs.Told.{Standing, Free, standing, standingAt, TellsTruly}
 use Rattle.run_events.proofs.Theorems.{fresh-agree, fresh-truly}
+use Rattle.run_events.proofs.Open.{fresh-names}
 use Rattle.card_by_card.specs.Serving.{recordedIn}
 use Rattle.card_by_card.specs.Served.{Fresh, DemandThree, doneAt, eventsAt, takenBy, personOf, openOf, decisionBy, grantOpen}
 use Rattle.card_by_card.proofs.Cleared.{clear, cleared, clear-free}
@@ -58,6 +59,7 @@ demand-3 r f rows =
       all-free = λ d. ap (λ (x : Record). doorOf x d) (led .last) ∙ clear-free (planOf (lastOf r rows)) (lastOf r rows .right) (lastOf r rows .place) d;
       places = ap (λ (x : Record). x .place) (led .last);
       told = told;
+      held-open = fresh-names r (f .shaped) (f .sound) (fresh-free r f) rows;
       open-at-end = told .agree .each;
       unserved = λ d. counted takenBy personOf openOf persons-fair refl r f rows d;
       decided = λ d.

@@ -21,7 +21,7 @@ use Rattle.record.specs.Sound.{Sound}
 use Rattle.phases.specs.Kinds.{StepRow, allows}
 use Rattle.door_does.specs.declared.Does.{Does}
 use Rattle.door_does.specs.Does.{effect}
-use Rattle.record.specs.Steps.{reasonFor, First, act, refused, doing}
+use Rattle.record.specs.Steps.{reasonFor, First, heldFor, act, refused, doing}
 use Rattle.record.specs.Run.{rowOf, lastOf}
 use Rattle.tables.proofs.Cases.{either}
 use Rattle.record.proofs.Right.{reason-first, grants-keeps}
@@ -77,7 +77,7 @@ module _ (n : ℕ) (r : Record) (sh : Shaped r) (s : Sound r) (d : ℕ) (hd : d 
   c = doorOf r d
 
   abbrev Recorded : Kind → ℕ → Does → Type 0
-  Recorded k why x = ServesAll (cleared r) (recordedBy n d (c .holder) k why) (cleared (act r d x .next))
+  Recorded k why x = ServesAll (cleared r) (recordedBy n d (c .holder) k why (heldFor r (c .holder) why)) (cleared (act r d x .next))
 
   held : keeps (c .phase) ≡ true → c .holder < r .people
   held k = s .doors d hd .held k

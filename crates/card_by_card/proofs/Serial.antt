@@ -8,6 +8,7 @@ use mathlib.Core.List.{List, [], _∷_}
 use native.Mathlib.Omega.{arith}
 use borrow.Author.Tests.{lt-ltb, ne-eqb}
 use lib.ListN.{getD, set}
+use lib.Dec.{eqb}
 use lib.Seq.{set-set, set-getD}
 use Rattle.tables.specs.Tables.{mayBe, orElse, andAlso, mostDoors}
 use Rattle.tables.proofs.Laws.{clash}
@@ -18,15 +19,17 @@ use Rattle.phases.specs.declared.table.Kind.the-variants.{Card, Decide, Green, 
 use Rattle.phases.specs.declared.answer.Answer.the-variants.{Done}
 use Rattle.record.specs.declared.steps.Step.{Step}
 use Rattle.phases.specs.Phase.{read, granted, green, walked, expired, denied, red, dimmed, closed, greenSpan, redSpan, grants}
+use Rattle.phases.specs.Answers.{reasonBusy}
 use Rattle.door.specs.Door.{door, freeDoor}
 use Rattle.record.specs.Doors.{planOf, doorOf, putDoor, putAt, Shaped}
 use Rattle.record.specs.Deeds.{holding}
 use Rattle.granting.specs.Grants.{GrantAt}
+use Rattle.granting.specs.Reasons.{heldWith}
 use Rattle.record.specs.Sound.{Sound}
 use Rattle.phases.specs.Kinds.{StepRow, allows, namesPerson}
 use Rattle.door_does.specs.declared.Does.the-variants.{Turns}
 use Rattle.door_does.specs.Does.{effect}
-use Rattle.record.specs.Steps.{reasonFor, Admitted, First, none, away, barred, busy, act, doing, stepOf}
+use Rattle.record.specs.Steps.{reasonFor, Admitted, First, none, away, barred, busy, heldFor, act, doing, stepOf}
 use Rattle.record.specs.Run.{rowOf, lastOf}
 use Rattle.tables.proofs.Cases.{same-or-not}
 use Rattle.record.proofs.Keep.{put-same, put-grant, put-shaped, at-shaped}
@@ -67,9 +70,9 @@ put-put x d a b =
       count = n i;
     }
 
--- what a step that turns its door hands back
+-- what a step that turns its door hands back, with any reason but 3: no door is told
 abbrev pub turned : Record → ℕ → Door → ℕ → Step
-turned x d c why = record { next = putDoor x d c; answer = Done; phase = c .phase; reason = why }
+turned x d c why = record { next = putDoor x d c; answer = Done; phase = c .phase; reason = why; held = 0 }
 
 -- x with its door d as c is sound
 pub record StandsAt (x : Record) (d : ℕ) (c : Door) : Type 0 where
@@ -109,12 +112,13 @@ module _ (x : Record) (d : ℕ) (c : Door) (so : StandsAt x d c) where
       step-done (putDoor x d c) k d p (put-shaped x (so .shaped) d c) (so .sound) (so .exists) hp (subst (λ (y : Door). allows k (y .phase) ≡ true) (sym here) ok)
       ∙ ap (λ (y : Door). act (putDoor x d c) d (effect k p (reasonFor (putDoor x d c) d (y .holder)) y)) here
 
-  -- and where that turns the door, the door is turned
-  pub turns-to : (k : Kind) (p : ℕ) (c′ : Door) (why : ℕ) → (namesPerson k ≡ true → p < x .people) → allows k (c .phase) ≡ true
+  -- and where that turns the door, with any reason but 3, the door is turned
+  pub turns-to : (k : Kind) (p : ℕ) (c′ : Door) (why : ℕ) → eqb why reasonBusy ≡ false → (namesPerson k ≡ true → p < x .people) → allows k (c .phase) ≡ true
       → effect k p (reasonFor (putDoor x d c) d (c .holder)) c ≡ Turns c′ why → stepOf (putDoor x d c) k d p ≡ turned x d c′ why
-  unfolding act
-  turns-to k p c′ why hp ok e =
-      does k p hp ok ∙ ap (act (putDoor x d c) d) e ∙ ap (λ (y : Record). record { next = y; answer = Done; phase = c′ .phase; reason = why }) (put-put x d c c′)
+  unfolding act heldWith
+  turns-to k p c′ why other hp ok e =
+      does k p hp ok ∙ ap (act (putDoor x d c) d) e
+      ∙ rw other (ap (λ (y : Record). record { next = y; answer = Done; phase = c′ .phase; reason = why; held = 0 }) (put-put x d c c′))
 
   -- a record reached by a step is sound
   pub at-next : (k : Kind) (p : ℕ) (c′ : Door) (why : ℕ) → stepOf (putDoor x d c) k d p ≡ turned x d c′ why → StandsAt x d c′
@@ -130,7 +134,7 @@ module _ (x : Record) (d : ℕ) (c : Door) (so : StandsAt x d c) where
       → effect k 0 (reasonFor (putDoor x d c) d (c .holder)) c ≡ Turns c′ 0 → (StandsAt x d c′ → LeadsTo (putDoor x d c′) rows y)
       → LeadsTo (putDoor x d c) (stepAt k d ∷ rows) y
   turn k c′ nobody ok e on =
-      let to = turns-to k 0 c′ 0 (λ named. clash named nobody) ok e in
+      let to = turns-to k 0 c′ 0 refl (λ named. clash named nobody) ok e in
       leads-then (putDoor x d c) (stepAt k d) (turned x d c′ 0) to refl (on (at-next k 0 c′ 0 to))
 
 -- ---- what follows a decision
@@ -168,9 +172,9 @@ unfolding allows effect
 acked x d so = turn x d (door closed 0 0) so Ack freeDoor refl refl refl (λ _. leads-end _)
 
 module _ (x : Record) (d : ℕ) where
-  after-denial : (why : ℕ) → StandsAt x d (door denied 0 0) → LeadsTo (putDoor x d (door denied 0 0)) (afterDecide (Denial why) d) (putDoor x d freeDoor)
+  after-denial : (why held : ℕ) → StandsAt x d (door denied 0 0) → LeadsTo (putDoor x d (door denied 0 0)) (afterDecide (Denial why held) d) (putDoor x d freeDoor)
   unfolding afterDecide allows effect orElse
-  after-denial why so =
+  after-denial why held so =
       turn x d (door denied 0 0) so Red (door red 0 redSpan) refl refl refl
       (burning x d red-light 0 (redSpan - 1)
       (λ out. turn x d (door dimmed 0 0) out Dark (door closed 0 0) refl refl refl (acked x d)))
@@ -184,8 +188,8 @@ module _ (x : Record) (d : ℕ) where
       let c = door walked h 0 in
       let to : stepOf (putDoor x d c) Passed d 0 ≡ turned (putAt x h l) d (door closed 0 0) 0 =
       does x d c so Passed 0 (λ e. absurd (false≢true e)) refl
-      ∙ ap (λ (y : Door). record { next = putAt (putDoor (putDoor x d c) d (door closed 0 0)) (y .holder) l; answer = Done; phase = closed; reason = 0 }) (here x d c so)
-      ∙ ap (λ (y : Record). record { next = putAt y h l; answer = Done; phase = closed; reason = 0 }) (put-put x d c (door closed 0 0)) in
+      ∙ ap (λ (y : Door). record { next = putAt (putDoor (putDoor x d c) d (door closed 0 0)) (y .holder) l; answer = Done; phase = closed; reason = 0; held = 0 }) (here x d c so)
+      ∙ ap (λ (y : Record). record { next = putAt y h l; answer = Done; phase = closed; reason = 0; held = 0 }) (put-put x d c (door closed 0 0)) in
       leads-then (putDoor x d c) (stepAt Passed d) (turned (putAt x h l) d (door closed 0 0) 0) to refl
       (acked (putAt x h l) d
       (record {
@@ -219,7 +223,7 @@ placed r place = holding r place (r .phase) (r .holder) (r .count)
 -- who passed, and all else is as it was
 pub record Serves (r : Record) (e : RunEvent) (after : Record) : Type 0 where
   pub leads : LeadsTo r (serviceOf e) after
-  pub decides : Reads (decideOf r e .phase) (decideOf r e .reason) (servedAs (e .what))
+  pub decides : Reads (decideOf r e .phase) (decideOf r e .reason) (decideOf r e .held) (servedAs (e .what))
   pub moved : after .place ≡ placesBy (r .destination) (r .place) (e ∷ [])
   pub rest : after ≡ placed r (after .place)
 
@@ -273,7 +277,7 @@ module _ (x : Record) (sh : Shaped x) (s : Sound x) (d : ℕ) (hd : d < x .doors
 
   card-turns : stepOf (putDoor x d freeDoor) Card d h ≡ turned x d (door read h 0) 0
   unfolding allows effect
-  card-turns = turns-to x d freeDoor free-at Card h (door read h 0) 0 (λ _. hh) refl refl
+  card-turns = turns-to x d freeDoor free-at Card h (door read h 0) 0 refl (λ _. hh) refl refl
 
   read-at : StandsAt x d (door read h 0)
   read-at = at-next x d freeDoor free-at Card h (door read h 0) 0 card-turns
@@ -284,16 +288,16 @@ module _ (x : Record) (sh : Shaped x) (s : Sound x) (d : ℕ) (hd : d < x .doors
 
   decided-yes : Admitted x d h → Decided (door granted h 0) 0
   unfolding allows effect
-  decided-yes a = turns-to x d (door read h 0) read-at Decide 0 (door granted h 0) 0 (λ z. absurd (false≢true z)) refl (rw (admitted-then a))
+  decided-yes a = turns-to x d (door read h 0) read-at Decide 0 (door granted h 0) 0 refl (λ z. absurd (false≢true z)) refl (rw (admitted-then a))
 
-  decided-not : (why : ℕ) → (why ≡ 0 → ⊥) → First (shown x d h) d h why → Decided (door denied 0 0) why
+  decided-not : (why : ℕ) → (why ≡ 0 → ⊥) → eqb why reasonBusy ≡ false → First (shown x d h) d h why → Decided (door denied 0 0) why
   unfolding allows effect
-  decided-not why some first =
-      turns-to x d (door read h 0) read-at Decide 0 (door denied 0 0) why (λ z. absurd (false≢true z)) refl (rw (reason-only (shown x d h) d h why first, ne-eqb why 0 some))
+  decided-not why some other first =
+      turns-to x d (door read h 0) read-at Decide 0 (door denied 0 0) why other (λ z. absurd (false≢true z)) refl (rw (reason-only (shown x d h) d h why first, ne-eqb why 0 some))
 
   -- the service of an event of row n, from what its `decide` does and what follows
   module _ (n : ℕ) where
-    serves : (c : Door) (why : ℕ) (what : What) (y : Record) → Decided c why → Reads (c .phase) why (servedAs what)
+    serves : (c : Door) (why : ℕ) (what : What) (y : Record) → Decided c why → Reads (c .phase) why 0 (servedAs what)
         → y .place ≡ placesBy (x .destination) (x .place) (event n d h what ∷ []) → y ≡ placed x (y .place) → doorOf y d ≡ freeDoor
         → (StandsAt x d c → LeadsTo (putDoor x d c) (afterDecide (servedAs what) d) (putDoor y d freeDoor)) → Serves x (event n d h what) y
     unfolding serviceOf
@@ -310,22 +314,23 @@ module _ (x : Record) (sh : Shaped x) (s : Sound x) (d : ℕ) (hd : d < x .doors
         }
 
     -- a card denied for why, which is served so, alters nothing
-    refuses : (why : ℕ) → (why ≡ 0 → ⊥) → servedAs (Denial why) ≡ Denial why → First (shown x d h) d h why → Serves x (event n d h (Denial why)) x
+    refuses : (why : ℕ) → (why ≡ 0 → ⊥) → eqb why reasonBusy ≡ false → servedAs (Denial why 0) ≡ Denial why 0 → First (shown x d h) d h why
+        → Serves x (event n d h (Denial why 0)) x
     unfolding placesBy isPassage
-    refuses why some as-is first =
-        serves (door denied 0 0) why (Denial why) x (decided-not why some first) (rw as-is (denying refl)) refl refl is-free (rw as-is (after-denial x d why))
+    refuses why some other as-is first =
+        serves (door denied 0 0) why (Denial why 0) x (decided-not why some other first) (rw as-is (denying refl)) refl refl is-free (rw as-is (after-denial x d why 0))
 
     -- whoever is admitted is granted, and it lapses: that alters nothing ..
     lapses : (what : What) → servedAs what ≡ Lapse → isPassage what ≡ false → Admitted x d h → Serves x (event n d h what) x
     unfolding placesBy
     lapses what as-lapse still a =
-        serves (door granted h 0) 0 what x (decided-yes a) (rw as-lapse (lapsing refl refl)) (rw still refl) refl is-free (rw as-lapse (after-lapse x d h))
+        serves (door granted h 0) 0 what x (decided-yes a) (rw as-lapse (lapsing refl refl refl)) (rw still refl) refl is-free (rw as-lapse (after-lapse x d h))
 
     -- .. or it is used: then the person is in the door's destination, and all else is as it was
     pub passes-through : Admitted x d h → Serves x (event n d h Passage) (putAt x h (getD (x .destination) d 0))
     unfolding servedAs placesBy isPassage
     passes-through a =
-        serves (door granted h 0) 0 Passage (putAt x h (getD (x .destination) d 0)) (decided-yes a) (passing refl refl) refl refl is-free (after-passage x d h)
+        serves (door granted h 0) 0 Passage (putAt x h (getD (x .destination) d 0)) (decided-yes a) (passing refl refl refl) refl refl is-free (after-passage x d h)
 
 -- in the cleared record of r, a card of person h at door d
 module _ (r : Record) (sh : Shaped r) (s : Sound r) (d : ℕ) (hd : d < r .doors) (h : ℕ) (hh : h < r .people) where
@@ -342,13 +347,13 @@ module _ (r : Record) (sh : Shaped r) (s : Sound r) (d : ℕ) (hd : d < r .doors
       record { at-origin = a; has-right = b; no-grant = λ e g. clash (subst (λ (c : Door). grants (c .phase) ≡ true) (all-free e) (g .holds)) refl }
 
   module _ (n : ℕ) where
-    -- a refused card is served, and nothing is altered; with reason 3 it is granted, and lapses unused
-    pub serves-denial : (why : ℕ) → (why ≡ 0 → ⊥) → First r d h why → Serves x (event n d h (Denial why)) x
-    unfolding servedAs isPassage
+    -- a refused card is served, and nothing is altered; with reason 3, whatever door is told with it, it is granted, and lapses unused
+    pub serves-denial : (why : ℕ) → (why ≡ 0 → ⊥) → First r d h why → Serves x (event n d h (Denial why (heldFor r h why))) x
+    unfolding servedAs isPassage heldWith
     serves-denial why some (none a) = absurd (some refl)
-    serves-denial why some (away a) = refuses x (clear-shaped r sh) (clear-sound r s) d hd (all-free d) h hh n 1 some refl (away a)
-    serves-denial why some (barred a b) = refuses x (clear-shaped r sh) (clear-sound r s) d hd (all-free d) h hh n 2 some refl (barred a b)
-    serves-denial why some (busy a b e g) = lapses x (clear-shaped r sh) (clear-sound r s) d hd (all-free d) h hh n (Denial 3) refl refl (alone a b)
+    serves-denial why some (away a) = refuses x (clear-shaped r sh) (clear-sound r s) d hd (all-free d) h hh n 1 some refl refl (away a)
+    serves-denial why some (barred a b) = refuses x (clear-shaped r sh) (clear-sound r s) d hd (all-free d) h hh n 2 some refl refl (barred a b)
+    serves-denial why some (busy a b e g) = lapses x (clear-shaped r sh) (clear-sound r s) d hd (all-free d) h hh n (Denial 3 (heldFor r h 3)) refl refl (alone a b)
 
     -- a grant that the door holds in r is granted, and lapses ..
     pub serves-lapse : getD (r .place) h 0 ≡ getD (r .origin) d 0 → mayBe (r .right) h (getD (r .destination) d 0) ≡ true → Serves x (event n d h Lapse) x

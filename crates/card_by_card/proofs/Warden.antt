@@ -38,7 +38,7 @@ all-moved (more {es} s on) = all-moved on ∙ rw (ap (λ (y : Record). y .destin
 passage : (e : What) → isPassage e ≡ true → e ≡ Passage
 unfolding isPassage
 passage Grant is = absurd (false≢true is)
-passage (Denial why) is = absurd (false≢true is)
+passage (Denial why held) is = absurd (false≢true is)
 passage Passage is = refl
 passage Lapse is = absurd (false≢true is)
 
@@ -99,20 +99,20 @@ served-at {x} [] e after (more {y} s on) = (x, y, none, s)
 served-at (b ∷ before) e after (more s on) = let at = served-at before e after on in (at .0, at .1, more s (at .2), at .3)
 
 -- a refusal among the events moves nobody
-refusal-still : (destination place : List ℕ) (e : RunEvent) (es : List RunEvent) (why : ℕ) → e .what ≡ Denial why
+refusal-still : (destination place : List ℕ) (e : RunEvent) (es : List RunEvent) (why held : ℕ) → e .what ≡ Denial why held
     → placesBy destination place (e ∷ es) ≡ placesBy destination place es
 unfolding placesBy isPassage
-refusal-still destination place e es why is = rw is
+refusal-still destination place e es why held is = rw is
 
 -- and its service alters nothing, so that the others are served without it
-denial-still : {x y : Record} {e : RunEvent} → Serves x e y → (why : ℕ) → e .what ≡ Denial why → y ≡ x
+denial-still : {x y : Record} {e : RunEvent} → Serves x e y → (why held : ℕ) → e .what ≡ Denial why held → y ≡ x
 unfolding placesBy
-denial-still {x} {e} s why is = s .rest ∙ ap (placed x) (s .moved ∙ refusal-still (x .destination) (x .place) e [] why is)
+denial-still {x} {e} s why held is = s .rest ∙ ap (placed x) (s .moved ∙ refusal-still (x .destination) (x .place) e [] why held is)
 
 struck-served : {x z : Record} {es left : List RunEvent} → ServesAll x es z → Struck es left → ServesAll x left z
 struck-served none no-more = none
 struck-served (more s on) (keep struck) = more s (struck-served on struck)
-struck-served {z} {left} (more s on) (strike why is struck) = subst (λ (y : Record). ServesAll y left z) (denial-still s why is) (struck-served on struck)
+struck-served {z} {left} (more s on) (strike why held is struck) = subst (λ (y : Record). ServesAll y left z) (denial-still s why held is) (struck-served on struck)
 
 moves-nobody : (k : Kind) → (k ≡ Decide) ⊎ (k ≡ Card) → k ≡ Passed → ⊥
 moves-nobody k (inl e) is = let z : _≡_ {A = ℕ} 0 1 = cc in omega arith
@@ -126,10 +126,10 @@ refused-moves-nobody r f rows =
       in-the-run = λ before after row _ kind.
           ap (λ (x : Record). x .place) (last-both r before (row ∷ []))
           ∙ places-stay (lastOf r before) (row .kind) (row .at) (row .person) (moves-nobody (row .kind) kind);
-      in-the-serving = λ before after e why split is.
+      in-the-serving = λ before after e why held split is.
           let at = served-at before e after (rw split at (all-served r f rows)) in
           ap (λ (x : Record). x .place) (all-lead (serves-both (at .2) (more (at .3) none)) .last)
-          ∙ (at .3 .moved ∙ refusal-still (at .0 .destination) (at .0 .place) e [] why is)
+          ∙ (at .3 .moved ∙ refusal-still (at .0 .destination) (at .0 .place) e [] why held is)
           ∙ ap (λ (x : Record). x .place) (sym (all-lead (at .2) .last));
       struck-out = λ events struck.
           let served = struck-served (all-served r f rows) struck in

@@ -142,6 +142,6 @@ pub record DemandThree (fresh : Record) (rows : List StepRow) : Type 0 where
   pub open-at-end : (d : ℕ) → standing (spellsIn fresh rows d) ≡ standingAt (doorOf (lastOf fresh rows) d)
   -- "A card not decided, or a grant not ended, isn't served": of the cards taken at a door, in order, all are served but the one open
   pub unserved : (d : ℕ) → takenAt d (heardOf fresh rows) ≡ servedAt d (recordedIn fresh rows) ++ openOf (standing (spellsIn fresh rows d))
-  -- and of the cards decided at a door, in order, each got the decision and the reason with which it is served, but for reason 3; only
-  -- a grant that is open isn't served
+  -- and of the cards decided at a door, in order, each got the decision, the reason and the held door with which it is served, but for
+  -- reason 3; only a grant that is open isn't served
   pub decided : (d : ℕ) → Alike (decidedAt d (heardOf fresh rows)) (decisionsAt d fresh (recordedIn fresh rows) ++ grantOpen (standing (spellsIn fresh rows d)))

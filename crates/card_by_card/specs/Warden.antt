@@ -51,8 +51,8 @@ pub data Struck : List RunEvent → List RunEvent → Type 0 where
   keep : {e : RunEvent} {es left : List RunEvent} → Struck es left → Struck (e ∷ es) (e ∷ left)
   strike : {e : RunEvent} {es left : List RunEvent} (why held : ℕ) → e .what ≡ Denial why held → Struck es left → Struck (e ∷ es) left
 
--- events served one after the other from the fresh record, by the panel's own steps: every step acts, each `decide` gives the decision
--- and the reason of its event, but for reason 3, and everyone stands in these places
+-- events served one after the other from the fresh record, by the panel's own steps: every step acts, each `decide` gives the
+-- decision, the reason and the held door of its event, but for reason 3, and everyone stands in these places
 pub record ServedTo (fresh : Record) (events : List RunEvent) (place : List ℕ) : Type 0 where
   pub acts : Acts fresh (services events)
   pub decides : Decides fresh events

@@ -21,7 +21,7 @@ use Rattle.record.proofs.Laws.{becomes, reasonIn}
 use Rattle.run_events.specs.Events.{Grant, Denial, Passage, Lapse, event, Nothing, meaningBy, Stage, NoCard, Awaited, After, Spell, spellBy, eventBy}
 use Rattle.run_events.specs.Told.{CardOf, GrantOf, standing, standingBy, standingAt, Granted, whatBy}
 
--- the reply of a step that was done at a door that was c, where each reason is told with this door
+-- the reply of a step that was done at a door that was c, `held` being the door that is told with each reason
 abbrev pub doneReply : (ℕ → ℕ) → Door → Does → Reply
 doneReply held c x = record { answer = 0; phase = becomes c x .phase; reason = reasonIn x; held = held (reasonIn x) }
 
