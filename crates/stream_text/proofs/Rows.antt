@@ -35,7 +35,7 @@ use Rattle.stream_text.specs.Rows.{lineWith, linesFrom, streamFrom, Hear
 -- ---- what one step writes
 
 -- an event in the words of a line
-abbrev pub lineWords : Msgid → ℕ → ℕ → ℕ → LineEvent
+abbrev pub lineWords : Msgid → ℕ → ℕ → ℕ → ℕ → LineEvent
 lineWords id d p reason held = record { msgid = id; door = d; person = p; reason = reason; held = held }
 
 -- where there is nothing to write
@@ -135,13 +135,13 @@ Cards spells cards = (d : ℕ) → d < mostDoors → spells d .person ≡ getD c
 cards-after : (spells : ℕ → Spell) (n : ℕ) (line : Line) (cards : List ℕ) → length cards ≡ mostDoors → Cards spells cards
     → Cards (spellsAfter spells n line)
     (set cards (line .row .at) (cardAfter (line .row .kind) (line .reply .answer) (line .row .person) (getD cards (line .row .at) 0)))
-cards-after spells n line cards long held d h =
+cards-after spells n line cards long shown d h =
     let there = line .row .at in
     ⊎-elim
     (λ (is : d ≡ there).
-    rw (after-here spells n line d is, spell-person line n (spells d), held d h, is)
+    rw (after-here spells n line d is, spell-person line n (spells d), shown d h, is)
     (sym (getD-set-same cards there _ 0 (omega arith))))
-    (λ other. rw (after-there spells n line d other, getD-set-other cards there d _ 0 other) (held d h))
+    (λ other. rw (after-there spells n line d other, getD-set-other cards there d _ 0 other) (shown d h))
     (same-or-not d there)
 
 -- ---- the loop over the rows
@@ -187,19 +187,19 @@ module _ {kinds doors persons answers phases reasons held : List ℕ} (heard : H
       → streamOf (map lineEvent (eventBy (meaningOf lineAt) (i + 1) (getD doors i 0) (spells (getD doors i 0) .person)))
       ≡ toldText (kindOf (getD kinds i 0)) (getD answers i 0) (getD phases i 0) (getD reasons i 0) (getD held i 0) (getD doors i 0) (getD cards (getD doors i 0) 0)
   unfolding toldText meaningOf eventBy streamOf
-  line-writes spells cards held =
+  line-writes spells cards shown =
       ap streamOf (any-row (meaningOf lineAt) (i + 1) (getD doors i 0) (spells (getD doors i 0) .person)) ∙ go (eqb (getD answers i 0) 0) refl
     where
       go : (b : Bool) → eqb (getD answers i 0) 0 ≡ b
           → streamOf (map lineEvent (eventBy (meaningOf lineAt) 0 (getD doors i 0) (spells (getD doors i 0) .person)))
           ≡ streamOf (map lineEvent (eventBy (meaningOf lineAt) 0 (getD doors i 0) (getD cards (getD doors i 0) 0)))
-      go true e = rw (held (getD doors i 0) (heard .exists i inside (eqb-true _ _ e)))
+      go true e = rw (shown (getD doors i 0) (heard .exists i inside (eqb-true _ _ e)))
       go false e = rw e
 
 -- the loop has come to row i; the list has the person of each door's card
 pub record Eventing (kinds doors persons answers phases reasons held before out cards : List ℕ) (next i : ℕ) : Type 0 where
   pub spells : ℕ → Spell
-  pub held : (d : ℕ) → d < mostDoors → spells d .person ≡ getD cards d 0
+  pub shown : (d : ℕ) → d < mostDoors → spells d .person ≡ getD cards d 0
   pub long : length cards ≡ mostDoors
   pub low : i ≤ length kinds
   pub pending : Pending before 0 (streamFrom kinds doors persons answers phases reasons held) out next (streamOf (map lineEvent (eventsOf spells (i + 1) (linesFrom (drop i kinds) (drop i doors) (drop i persons) (drop i answers) (drop i phases) (drop i reasons) (drop i held)))))
@@ -210,7 +210,7 @@ unfolding zeros
 events-start e f =
     record {
       spells = noSpells;
-      held = λ d h. rw e (sym (zeros-at mostDoors d));
+      shown = λ d h. rw e (sym (zeros-at mostDoors d));
       long = ap length e ∙ length-replicate {A = ℕ} mostDoors 0;
       low = omega arith;
       pending = begun f (omega arith);
@@ -228,15 +228,15 @@ events-more {kinds} {doors} {persons} {answers} {phases} {reasons} {held} {cards
     let is : cards′ ≡ set cards (getD doors i 0) (cardAfter (kindOf (getD kinds i 0)) (getD answers i 0) (getD persons i 0) (getD cards (getD doors i 0) 0)) = rw (put, now, was, k, a, at, person) in
     record {
       spells = spellsAfter (here .spells) (i + 1) line;
-      held = rw is (cards-after (here .spells) (i + 1) line cards (here .long) (here .held));
+      shown = rw is (cards-after (here .spells) (i + 1) line cards (here .long) (here .shown));
       long = rw is (length-set cards _ _ ∙ here .long);
       low = omega arith;
       pending =
           more (here .pending)
           (ap (λ (lines : List Line). streamOf (map lineEvent (eventsOf (here .spells) (i + 1) lines))) (lines-cons heard i inside)
           ∙ (stream-both (eventBy (meaningOf line) (i + 1) (getD doors i 0) (here .spells (getD doors i 0) .person)) _
-          ∙ ap (λ (t : List ℕ). t ++ restFrom heard i inside (spellsAfter (here .spells) (i + 1) line)) (line-writes heard i inside (here .spells) cards (here .held))))
-          (rw (was, k, a, ph, why, at) at w);
+          ∙ ap (λ (t : List ℕ). t ++ restFrom heard i inside (spellsAfter (here .spells) (i + 1) line)) (line-writes heard i inside (here .spells) cards (here .shown))))
+          (rw (was, k, a, ph, why, h, at) at w);
     }
 
 pub events-end : {kinds doors persons answers phases reasons held before out cards : List ℕ} {next i : ℕ}
