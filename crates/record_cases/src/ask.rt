@@ -1,5 +1,5 @@
 // The questions: whether the record is sound, where a person is, which door is granted to a person, the way out of a location; and a
-// run whose lists are too short.
+// run of which one list is too short.
 use crate::step::write_ran;
 use crate::write::write;
 use crate::write::write_bytes;
@@ -46,9 +46,9 @@ fn write_way(location: usize, room: usize, record: Record) {
     write_whole(&list);
 }
 
-// A run of one step that has no room for its answer, and the lists that were lent.
-fn write_short(record: Record) {
-    write_ran(0, 0, 0, 0, UNWRITTEN, record);
+// A run of one step in which the list of this number has no room, and the lists that were lent.
+fn write_short(list: usize, record: Record) {
+    write_ran(0, 0, 0, list, UNWRITTEN, record);
 }
 
 fn write_sound(record: Record) {
@@ -66,7 +66,7 @@ pub fn ask(question: u8, a: usize, b: usize, record: Record) {
         13 => write_place(a, record),
         14 => write_grant(a, record),
         15 => write_way(a, b, record),
-        16 => write_short(record),
+        16 => write_short(a, record),
         _ => (),
     }
 }

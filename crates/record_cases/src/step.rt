@@ -1,4 +1,5 @@
 // A step, in each way in which the record does one.
+ghost use Prim.Native.Nat.{_≤_};
 use crate::write::word;
 use crate::write::write;
 use crate::write::write_bytes;
@@ -9,6 +10,9 @@ use lists::word_at;
 use phases::table::Kind;
 use record::record::Record;
 use record::steps::Step;
+
+// A run fills so many lists: 0 is the answers, 1 the phases, 2 the reasons, 3 the held doors.
+const LISTS: usize = 4;
 
 // By the method of the step's name.
 fn by_method(kind: u8, door: usize, person: usize, record: Record) -> Step {
@@ -37,13 +41,14 @@ fn write_kept(door: usize, record: Record) {
     write_next(byte_at(&record.place, 1) as u64);
 }
 
-// The answer, the phase and the reason of a step, and what is kept afterwards.
+// The answer, the phase and the reason of a step, the door told with it, and what is kept afterwards.
 fn write_step(way: &[u8], door: usize, step: Step) {
     let answer = step.answer;
     write(way);
     write_next(answer.number() as u64);
     write_next(step.phase as u64);
     write_next(step.reason as u64);
+    write_next(step.held as u64);
     write_kept(door, step.next);
 }
 
@@ -52,22 +57,30 @@ fn write_one(list: &[u8; 1]) {
     write_bytes(list);
 }
 
-// A run of one step with room for so many answers: its answer, and the three lists, which held this before. The record that it
-// hands back.
+// How much is lent of this list of a run of one step: nothing of the one that has no room.
+fn room(list: usize, short: usize) -> usize
+    ensures { λ r. ⌜ r ≤ 1 ⌝ }
+{
+    if list == short {
+        return 0;
+    }
+    1
+}
+
+// A run of one step in which the list of this number has no room: its answer, and the four lists, which held this before. The record
+// that it hands back.
 pub fn write_ran(
     kind: u8,
     door: usize,
     person: usize,
-    room: usize,
+    short: usize,
     unwritten: u8,
     record: Record,
 ) -> Record {
-    if 1 < room {
-        return record;
-    }
     let mut answers = [unwritten; 1];
     let mut phases = [unwritten; 1];
     let mut reasons = [unwritten; 1];
+    let mut held = [unwritten as usize; 1];
     let steps = [kind; 1];
     let doors = [word(door); 1];
     let persons = [word(person); 1];
@@ -76,15 +89,17 @@ pub fn write_ran(
         &steps,
         &doors,
         &persons,
-        &mut answers[0..room],
-        &mut phases,
-        &mut reasons,
+        &mut answers[0..room(0, short)],
+        &mut phases[0..room(1, short)],
+        &mut reasons[0..room(2, short)],
+        &mut held[0..room(3, short)],
     );
     let answer = ran.answer;
     write_next(answer.number() as u64);
     write_one(&answers);
     write_one(&phases);
     write_one(&reasons);
+    write_next(held[0] as u64);
     ran.next
 }
 
@@ -94,7 +109,7 @@ pub fn do_step(kind: u8, door: usize, person: usize, record: Record) -> Record {
     write_step(b" numbered", door, record.step_numbered(kind, door, person));
     write_step(b" lent", door, lend(record, Kind::of(kind), door, person));
     write(b" run");
-    write_kept(door, write_ran(kind, door, person, 1, 0, record));
+    write_kept(door, write_ran(kind, door, person, LISTS, 0, record));
     let step = by_method(kind, door, person, record);
     write_step(b" method", door, step);
     step.next
