@@ -22,7 +22,7 @@ use Rattle.door_does.specs.declared.Does.{Does}
 use Rattle.door_does.specs.Does.{effect}
 use Rattle.record.specs.Steps.{First, HeldDoor, the-grant, no-door, doing, reasonFor, stepOf}
 use Rattle.tables.proofs.Cases.{same-or-not, one-of, either}
-use Rattle.record.proofs.Laws.{Allowed, done-did, denied-first, held-door, becomes, door-after}
+use Rattle.record.proofs.Laws.{Allowed, done-did, denied-first, door-told, becomes, door-after}
 use Rattle.record.proofs.Fresh.{fresh-free, fresh-outside}
 use Rattle.machines.specs.Sets.{dom, _∪_}
 use Rattle.machines.specs.M3 as m3
@@ -184,7 +184,7 @@ module _ (site : Plan) (right : List Bool) where
 pub first-failing : (r : Record) → Sound r → (d p : ℕ) → stepOf r Decide d p .answer ≡ Done
     → FirstFailing (constantsOf r) (stateOf r) (getD (r .holder) d 0) d (stepOf r Decide d p .reason) (stepOf r Decide d p .held)
 unfolding allows keeps andAlso
-first-failing r s d p done = go (denied-first r d p done) (held-door r s Decide d p)
+first-failing r s d p done = go (denied-first r d p done) (door-told r s Decide d p)
   where
     w : Allowed r Decide d p
     w = done-did r Decide d p done .0

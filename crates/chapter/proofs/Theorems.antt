@@ -3,7 +3,7 @@
 --     fresh-reads                                     the fresh record reads as the initial state
 --     step-acts, step-follows, tick-idles,            each step acts exactly when its event may, and does what the event does
 --     refusal-alters-nothing, stands-for-one, idle-stands-for-none
---     denial-first                                    the reason told is the first conjunct that fails
+--     denial-first                                    the reason told is the first conjunct that fails, and the door is dap(p)
 --     constants-obey, invariants-hold                 every axiom and every invariant holds of every sound record
 --     the-chapter                                     each machine keeps its invariants and refines the one before, and pass happens
 --                                                     no less often in the second refinement than in the first
@@ -86,7 +86,7 @@ stands-for-one = stands-once
 pub idle-stands-for-none : (r : Record) (k : Kind) (d p : ℕ) (e : m4.Event) → Idle r k d → StandsFor r d p k e → ⊥
 idle-stands-for-none = idle-stands
 
--- What `decide` tells is the first of accept's three guards that fails for the card's person, and 0 where none does.
+-- What `decide` tells is the first of accept's three guards that fails for the card's person, and 0 where none does; with reason 3, dap(p).
 pub denial-first : (r : Record) → Sound r → (d p : ℕ) → stepOf r Decide d p .answer ≡ Done
     → FirstFailing (constantsOf r) (stateOf r) (getD (r .holder) d 0) d (stepOf r Decide d p .reason) (stepOf r Decide d p .held)
 denial-first = first-failing

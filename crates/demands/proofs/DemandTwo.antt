@@ -39,7 +39,7 @@ use Rattle.tables.proofs.Cases.{either}
 use Rattle.record.proofs.Ask.{place-is-location, way-out-safe}
 use Rattle.record.proofs.Right.{admitted}
 use Rattle.record.proofs.Tells.{sound-tells}
-use Rattle.record.proofs.Laws.{done-did, barred-12, act-done, becomes, door-after, sound-stays, shaped-stays, plan-stays, rights-stay, run-sound, run-shaped, run-plan, run-rights, denied-first, held-door, granted-exactly, green-burns, green-expires, red-burns, red-dims}
+use Rattle.record.proofs.Laws.{done-did, barred-12, act-done, becomes, door-after, sound-stays, shaped-stays, plan-stays, rights-stay, run-sound, run-shaped, run-plan, run-rights, denied-first, door-told, granted-exactly, green-burns, green-expires, red-burns, red-dims}
 use Rattle.verdict.specs.declared.Verdict.the-variants.{Accepted}
 use Rattle.grammar.specs.Sizes.{limit}
 use Rattle.site_lines.specs.Draft.{planIn}
@@ -202,7 +202,7 @@ decided r sh s d p e =
 pub held-grant : (r : Record) → Sound r → (d p : ℕ) → stepOf r Decide d p .answer ≡ Done → HeldIsTheGrant r d (stepOf r Decide d p)
 unfolding allows grants andAlso
 held-grant r s d p done =
-    let told = held-door r s Decide d p in
+    let told = door-told r s Decide d p in
     record {
       the-door = the-one told;
       by-dap = the-one told;

@@ -21,10 +21,11 @@ replyOfLine line = line .reply
 
 -- of a site sheet, a steps sheet and the steps that it says
 pub record PrintedAsServed (site steps : List ℕ) (said : Steps) : Type 0 where
-  -- `panel` prints "a row for each data row": the answer, the phase and the reason of each line, in order;
+  -- `panel` prints "a row for each data row": the answer, the phase, the reason and the held door of each line, in order;
   pub panel : panelText site steps ≡ runText (map replyOfLine (heardIn site said)) (said .whole)
-  -- of the lines of a door that are a `decide` answered 0, in order, each has the decision and the reason with which its card is served
-  -- from the fresh record, but for reason 3; only a grant that is open at the end isn't served; what is served is made of these lines alone;
+  -- of the lines of a door that are a `decide` answered 0, in order, each has the decision, the reason and the held door with which its card
+  -- is served from the fresh record, but for reason 3; only a grant that is open at the end isn't served; what is served is made of these
+  -- lines alone;
   pub decided : (d : ℕ) → Alike (decidedAt d (heardIn site said))
       (decisionsAt d (siteOf site .«record») (recorded (eventsOf noSpells 1 (heardIn site said))) ++ grantOpen (standing (spellsOf noSpells 1 (heardIn site said) d)))
   -- and what `where` prints is what the served record prints

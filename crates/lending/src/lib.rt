@@ -7,12 +7,12 @@ use record::record::Record;
 use record::steps::Step;
 
 // A step by lending the record: the record as it is found afterwards, and what was told.
-pub fn lend(mut held: Record, kind: Kind, door: usize, person: usize) -> Step
-    ensures { λ r. ⌜ r ≡ stepOf held kind door person ⌝ }
+pub fn lend(mut start: Record, kind: Kind, door: usize, person: usize) -> Step
+    ensures { λ r. ⌜ r ≡ stepOf start kind door person ⌝ }
 {
-    let told = held.step_lent(kind, door, person);
+    let told = start.step_lent(kind, door, person);
     Step {
-        next: held,
+        next: start,
         answer: told.answer,
         phase: told.phase,
         reason: told.reason,

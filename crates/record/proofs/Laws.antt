@@ -9,7 +9,7 @@
 --     refused-stays, barred-stays              a refused step is no change
 --     denied-first                             the reason is the first that applies
 --     act-reason                               only a `decide` that denies tells a reason
---     held-door                                the door told with it is that of the person's grant, and 0 with any other reason
+--     door-told                                the door told with it is that of the person's grant, and 0 with any other reason
 --     granted-exactly                          a card is granted exactly when all three conditions hold
 --     leaves, holds-on                         the held person leaves at `passed`, `lapsed` and a denial, and at no other step
 --     lapsed-frees                             after `lapsed` the person holds no grant
@@ -296,8 +296,8 @@ act-held-door r k d p s =
     (held-first r s d h (act r d x .reason) (rw decides (decided-first r d p))))
     (same-or-not (act r d x .reason) 0)
 
-pub held-door : (r : Record) → Sound r → (k : Kind) (d p : ℕ) → HeldDoor r (getD (r .holder) d 0) (stepOf r k d p .reason) (stepOf r k d p .held)
-held-door r s k d p =
+pub door-told : (r : Record) → Sound r → (k : Kind) (d p : ℕ) → HeldDoor r (getD (r .holder) d 0) (stepOf r k d p .reason) (stepOf r k d p .held)
+door-told r s k d p =
     step-cases (λ x. HeldDoor r (getD (r .holder) d 0) (x .reason) (x .held)) r k d p (λ _ _ _. no-door (λ z. omega arith))
     (λ _. act-held-door r k d p s)
 
