@@ -1,5 +1,5 @@
--- `blank_panel_text` meets its contract: the list of the code is that of the definition. `search` finds it too, but breaks off before it can
--- tell two lists of this length apart. Assumes nothing.
+-- `blank_panel_text` meets its contract: the list of the code is that of the definition. `search` finds it too, but breaks off
+-- before it can tell two lists of this length apart. Assumes nothing.
 use mathlib.Core.Path.{refl}
 use Rattle.blank_lists.proofs.blank_panel_text.Statement.{statement}
 use Rattle.blank_lists.proofs.blank_panel_text.Tie as tie
