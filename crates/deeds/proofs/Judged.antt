@@ -17,7 +17,6 @@ use Rattle.door_does.specs.declared.Does.{Does}
 use Rattle.door.specs.Door.{doorIn}
 use Rattle.door_does.specs.Does.{effect}
 use Rattle.granting.specs.Reasons.{firstReason}
-use Rattle.deeds.specs.declared.Deed.{Deed}
 use Rattle.deeds.specs.declared.Deed.the-variants.{Tells}
 use Rattle.deeds.specs.Deeds.{existAmong, deedOf, judgedOf}
 

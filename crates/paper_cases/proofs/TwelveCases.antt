@@ -22,7 +22,7 @@ use Rattle.record.specs.Sound.{Sound}
 use Rattle.door_does.specs.Does.{effect}
 use Rattle.granting.specs.Reasons.{firstReason, heldWith}
 use Rattle.deeds.specs.Deeds.{existAmong}
-use Rattle.record.specs.Steps.{act, exist, soundStep}
+use Rattle.record.specs.Steps.{act, soundStep}
 use Rattle.record.specs.SoundTest.{soundB}
 use Rattle.record.specs.Questions.{wayAnswerOf, wayWritten}
 use Rattle.asked_way.specs.declared.WayAnswer.the-variants.{Length}

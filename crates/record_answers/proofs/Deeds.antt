@@ -1,7 +1,7 @@
 -- Demand 1 of a step that is judged on lent lists and carried out on them, and that each has one answer. Assumes nothing.
 use Prim.Native.Nat.{ℕ, _≤_, _<_}
 use mathlib.Core.Path.{_≡_, refl, sym, _∙_}
-use mathlib.Core.Bool.{Bool, true, false, not, cond}
+use mathlib.Core.Bool.{Bool, true, false, not}
 use mathlib.Core.List.{List, []}
 use mathlib.Core.Logic.{inl, inr}
 use native.Mathlib.Omega.{arith}
@@ -15,7 +15,7 @@ use Rattle.tables.specs.Below.{Tells}
 use Rattle.tables.proofs.Laws.{clash, and-left, and-right, and-both}
 use Rattle.tables.proofs.Cases.{either}
 use Rattle.phases.specs.declared.table.Kind.{Kind}
-use Rattle.phases.specs.declared.answer.Answer.the-variants.{Done, NoSuch, NotAllowed, Unsound}
+use Rattle.phases.specs.declared.answer.Answer.the-variants.{Done}
 use Rattle.phases.specs.Answers.{answerNo}
 use Rattle.phases.specs.Kinds.{namesPerson}
 use Rattle.phases.specs.Table.{asked}
@@ -27,7 +27,7 @@ use Rattle.door_does.specs.Does.{effect}
 use Rattle.granting.specs.Reasons.{firstReason}
 use Rattle.deeds.specs.declared.Deed.{Deed}
 use Rattle.deeds.specs.declared.Deed.the-variants.{Tells as Told-so, Puts, Leads}
-use Rattle.deeds.specs.Deeds.{existAmong, deedOf, allowedOf, judgedOf, toldOf, placesAfter, phasesAfter, holdersAfter, countsAfter}
+use Rattle.deeds.specs.Deeds.{existAmong, deedOf, judgedOf, toldOf, phasesAfter, holdersAfter, countsAfter}
 use Rattle.record.specs.Doors.{recordOf}
 use Rattle.record.proofs.Deeds.{judged-step}
 use Rattle.record.proofs.Laws.{sound-steps}

@@ -24,7 +24,7 @@ use Rattle.record.specs.Sound.{Sound}
 use Rattle.door_does.specs.Does.{effect}
 use Rattle.granting.specs.Reasons.{firstReason, heldWith}
 use Rattle.deeds.specs.Deeds.{existAmong}
-use Rattle.record.specs.Steps.{act, exist, soundStep}
+use Rattle.record.specs.Steps.{act, soundStep}
 use Rattle.record.specs.Run.{Reply, replyBy, rowOf, lastOf, repliesOf}
 use Rattle.record.proofs.Laws.{sound-steps, sound-stays, shaped-stays}
 use Rattle.grammar.specs.Cut.{bareMove, shutMove, moveOf, endOf, fieldFrom, pushed, rowFrom, cutRow}
