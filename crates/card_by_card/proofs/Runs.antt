@@ -79,8 +79,8 @@ module _ (n : ℕ) (r : Record) (sh : Shaped r) (s : Sound r) (d : ℕ) (hd : d 
   abbrev Recorded : Kind → ℕ → Does → Type 0
   Recorded k why x = ServesAll (cleared r) (recordedBy n d (c .holder) k why (heldFor r (c .holder) why)) (cleared (act r d x .next))
 
-  held : keeps (c .phase) ≡ true → c .holder < r .people
-  held k = s .doors d hd .held k
+  a-person : keeps (c .phase) ≡ true → c .holder < r .people
+  a-person k = s .doors d hd .held k
 
   serves-decide : (p why : ℕ) → c .phase ≡ read → First r d (c .holder) why → Recorded Decide why (effect Decide p why c)
   unfolding act effect whatBy recorded endsCard keeps andAlso
@@ -88,7 +88,7 @@ module _ (n : ℕ) (r : Record) (sh : Shaped r) (s : Sound r) (d : ℕ) (hd : d 
     where
       go : (t : Bool) → eqb why 0 ≡ t → Recorded Decide why (effect Decide p why c)
       go true e = rw e none
-      go false e = rw e (more (serves-denial r sh s d hd (c .holder) (held (rw is)) n why (eqb-false why 0 e) first) none)
+      go false e = rw e (more (serves-denial r sh s d hd (c .holder) (a-person (rw is)) n why (eqb-false why 0 e) first) none)
 
   serves-done : (k : Kind) (p : ℕ) → allows k (c .phase) ≡ true → Recorded k (reasonFor r d (c .holder)) (effect k p (reasonFor r d (c .holder)) c)
   unfolding allows act effect whatBy recorded endsCard grants andAlso
@@ -102,10 +102,10 @@ module _ (n : ℕ) (r : Record) (sh : Shaped r) (s : Sound r) (d : ℕ) (hd : d 
       (λ _. either (Recorded Tick 0) (eqb (c .phase) red) (λ _. either (Recorded Tick 0) (ltb 1 (c .count)) (λ _. none) (λ _. none)) (λ _. none))
   serves-done Passed p ok =
       let g : grants (c .phase) ≡ true = rw (eqb-true (c .phase) walked ok) in
-      more (serves-passage r sh s d hd (c .holder) (held (grants-keeps (c .phase) g)) n (s .doors d hd .starts g) (s .doors d hd .may g)) none
+      more (serves-passage r sh s d hd (c .holder) (a-person (grants-keeps (c .phase) g)) n (s .doors d hd .starts g) (s .doors d hd .may g)) none
   serves-done Lapsed p ok =
       let g : grants (c .phase) ≡ true = rw (eqb-true (c .phase) expired ok) in
-      more (serves-lapse r sh s d hd (c .holder) (held (grants-keeps (c .phase) g)) n (s .doors d hd .starts g) (s .doors d hd .may g)) none
+      more (serves-lapse r sh s d hd (c .holder) (a-person (grants-keeps (c .phase) g)) n (s .doors d hd .starts g) (s .doors d hd .may g)) none
   serves-done Dark p ok = none
   serves-done Ack p ok = none
   serves-done Unknown p ok = none

@@ -72,7 +72,8 @@ pub fn first_reason<'a>(
     Reason::NONE
 }
 
-// The door that is told with a reason: where it is the person's grant, the first door that holds one, else 0.
+// The door that is told with a reason: with reason 3 the first door that holds a grant of the person, 0 where none does; with any other
+// reason 0.
 pub fn held_with<'a>(
     reason: u8,
     doors: usize,

@@ -49,7 +49,7 @@ pub record DoorPut (deed : Deed) (d : ℕ) (phase holder count : List ℕ) (c : 
 
 -- what is done at the door and to people
 abbrev pub CarriedOut : Deed → ℕ → List ℕ → List ℕ → List ℕ → List ℕ → Type 0
--- what only tells tells no reason, and leaves every list as it was
+-- what only tells tells no reason and no door, and leaves every list as it was
 CarriedOut (Tells answer so) d place phase holder count =
     (toldOf (Tells answer so) ≡ record { answer = answer; phase = so; reason = 0; held = 0 })
     × (placesAfter (Tells answer so) place ≡ place)

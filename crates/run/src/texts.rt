@@ -14,7 +14,7 @@ ghost use Rattle.steps_sheet.specs.Steps.{headingOf, stepsFrom};
 ghost use Rattle.run_text.specs.Printed.{answerRows, repliesFrom, runText, aloneText, ranText, stepsText, panelText};
 ghost use Rattle.run_text.specs.Printed.{placesText, recordText, lastRecord, whereText};
 use crate::blank::blank_bytes;
-use crate::blank::blank_doors;
+use crate::blank::blank_held;
 use crate::serve::serve;
 use findings::Printed;
 use number_rows::put_row;
@@ -127,7 +127,7 @@ fn print_steps<'a>(fresh: Record, s: &'a [u8], from: usize, out: &'a mut [u8]) -
     let mut answers = blank_bytes();
     let mut phases = blank_bytes();
     let mut reasons = blank_bytes();
-    let mut held = blank_doors();
+    let mut held = blank_held();
     let served = serve(
         fresh,
         s,
@@ -217,7 +217,7 @@ fn record_after(fresh: Record, s: &[u8], from: usize) -> Record
     let mut answers = blank_bytes();
     let mut phases = blank_bytes();
     let mut reasons = blank_bytes();
-    let mut held = blank_doors();
+    let mut held = blank_held();
     let served = serve(
         fresh,
         s,

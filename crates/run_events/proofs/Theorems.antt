@@ -5,6 +5,7 @@
 --     fresh-agree     where every door is free, no spells agree with it
 --     fresh-truly     so a run from a fresh record tells truly
 --     fresh-began     and each spell has the row and the person of its taken card
+-- That a denial for reason 3 names an open grant, `fresh-names`, is in `Open`.
 use Prim.Native.Nat.{ℕ, _+_}
 use mathlib.Core.Path.{_≡_, refl, sym, ap, _∙_}
 use mathlib.Core.Bool.{Bool, true, false, cond}

@@ -45,7 +45,7 @@ use Rattle.steps_sheet.specs.Says.{Steps}
 use Rattle.steps_sheet.specs.Steps.{personAt, stepsLineAt, stepsHeaderAt, headingAt, headingOf, stepsIn, stepsFrom}
 use Rattle.run_text.specs.Printed.{answerRows, runText, aloneText, ranText, stepsText, panelText, placeRows, placesText, recordText, lastRecord, whereText}
 use Rattle.run_text.proofs.Sheets.{panel-refused, where-refused, panel-is, where-is}
-use Rattle.run_text.specs.Examples.{siteHeader, siteSheet, stepsSheet, panelTop, whereTop, four, two, panelOf01, badRow, Examples}
+use Rattle.run_text.specs.Examples.{siteHeader, siteSheet, stepsSheet, panelTop, whereTop, five, two, panelOf01, badRow, Examples}
 
 -- ---- the steps, without the test for 14
 
@@ -140,12 +140,12 @@ panel-ran : (s : List ℕ) {x : Steps} → headingOf s ≡ Rows 18 → stepsFrom
 panel-ran s e f = panel-here s e ∙ ap (ranText site-of-01) f ∙ sound-ran _
 
 texts : (soundRan stepsOf01 ≡ panelOf01)
-    × (soundRan oneCard ≡ panelTop (four 1 0 1 0 (four 2 2 0 0 [])))
+    × (soundRan oneCard ≡ panelTop (five 1 0 1 0 0 (five 2 2 0 0 0 [])))
     × (recordText (soundLast site-of-01 (stepsOf01 .rows)) ≡ whereTop (two 0 1 (two 1 0 [])))
 unfolding soundRan soundReplies soundLast stepsOf01 oneCard soundStep firstReason heldWith effect act existAmong allows hasGrant grantOf leastBelow orAt grantsTo grants mayBe andAlso orElse zeros runText answerRows placeRows placesText rowOfNumbers decimal digits
 texts = (refl, refl, refl)
 
-alone : (aloneText 2 ≡ panelTop (four 0 2 0 0 [])) × (aloneText 5 ≡ panelTop (four 0 5 0 0 [])) × (placesText [] ≡ whereTop []) × (recordText site-of-01 ≡ whereTop (two 0 0 (two 1 0 [])))
+alone : (aloneText 2 ≡ panelTop (five 0 2 0 0 0 [])) × (aloneText 5 ≡ panelTop (five 0 5 0 0 0 [])) × (placesText [] ≡ whereTop []) × (recordText site-of-01 ≡ whereTop (two 0 0 (two 1 0 [])))
 unfolding aloneText placeRows placesText rowOfNumbers decimal digits zeros
 alone = (refl, refl, refl, refl)
 

@@ -77,9 +77,9 @@ panelTop more =
 abbrev pub whereTop : List ℕ → List ℕ
 whereTop more = 112 ∷ 101 ∷ 114 ∷ 115 ∷ 111 ∷ 110 ∷ 44 ∷ 108 ∷ 111 ∷ 99 ∷ 97 ∷ 116 ∷ 105 ∷ 111 ∷ 110 ∷ 13 ∷ 10 ∷ more
 
--- a row of four numbers of one digit and the held door 0, and a row of two
-abbrev pub four : ℕ → ℕ → ℕ → ℕ → List ℕ → List ℕ
-four a b c d more = (48 + a) ∷ 44 ∷ (48 + b) ∷ 44 ∷ (48 + c) ∷ 44 ∷ (48 + d) ∷ 44 ∷ 48 ∷ 13 ∷ 10 ∷ more
+-- a row of five numbers of one digit, and a row of two
+abbrev pub five : ℕ → ℕ → ℕ → ℕ → ℕ → List ℕ → List ℕ
+five a b c d e more = (48 + a) ∷ 44 ∷ (48 + b) ∷ 44 ∷ (48 + c) ∷ 44 ∷ (48 + d) ∷ 44 ∷ (48 + e) ∷ 13 ∷ 10 ∷ more
 
 abbrev pub two : ℕ → ℕ → List ℕ → List ℕ
 two a b more = (48 + a) ∷ 44 ∷ (48 + b) ∷ 13 ∷ 10 ∷ more
@@ -91,7 +91,7 @@ lastTwo =
 
 abbrev pub panelOf01 : List ℕ
 panelOf01 =
-    panelTop (four 1 0 1 0 (four 2 0 2 0 (four 3 0 3 0 (four 4 0 4 0 (four 5 0 1 0 (four 6 0 6 1 (four 7 0 9 0 (four 8 0 7 0 lastTwo))))))))
+    panelTop (five 1 0 1 0 0 (five 2 0 2 0 0 (five 3 0 3 0 0 (five 4 0 4 0 0 (five 5 0 1 0 0 (five 6 0 6 1 0 (five 7 0 9 0 0 (five 8 0 7 0 0 lastTwo))))))))
 
 -- ---- and small runs
 
@@ -103,12 +103,12 @@ pub record Examples : Type 0 where
   -- 01's whole run, and "`where` then prints `0,1` and `1,0`."
   pub panel-of-01 : panelText siteSheet stepsSheet ≡ panelOf01
   pub where-of-01 : whereText siteSheet stepsSheet ≡ whereTop (two 0 1 (two 1 0 []))
-  -- "A row of form 2 is printed `row,2,0,0` and ends the run."
-  pub bad-row : panelText siteSheet badRow ≡ panelTop (four 1 0 1 0 (four 2 2 0 0 []))
+  -- "A row of form 2 is printed `row,2,0,0` and ends the run.", here and below with the column
+  pub bad-row : panelText siteSheet badRow ≡ panelTop (five 1 0 1 0 0 (five 2 2 0 0 0 []))
   -- "A wrong header is `0,2,0,0`": an empty sheet has none. "with a long or wrongly headed steps sheet everyone is at 0"
-  pub wrong-header : panelText siteSheet [] ≡ panelTop (four 0 2 0 0 [])
+  pub wrong-header : panelText siteSheet [] ≡ panelTop (five 0 2 0 0 0 [])
   pub wrong-header-where : whereText siteSheet [] ≡ whereTop (two 0 0 (two 1 0 []))
   -- "and a refused site sheet `0,N,0,0` with its number; .. the site's before the steps'": a header alone is 5.
   -- "with a refused site sheet it prints only the header"
-  pub refused-site : panelText siteHeader [] ≡ panelTop (four 0 5 0 0 [])
+  pub refused-site : panelText siteHeader [] ≡ panelTop (five 0 5 0 0 0 [])
   pub refused-site-where : whereText siteHeader [] ≡ whereTop []

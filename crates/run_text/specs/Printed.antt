@@ -65,13 +65,13 @@ servedOf r steps = record { next = lastOf r (steps .rows); count = length (steps
 abbrev pub ranText : Record → Steps → List ℕ
 ranText r steps = runText (repliesOf r (steps .rows)) (steps .whole)
 
--- "A wrong header is `0,2,0,0`, a long steps sheet `0,1,0,0`"
+-- "A wrong header is `0,2,0,0`, a long steps sheet `0,1,0,0`", each with the column
 abbrev pub stepsText : Record → List ℕ → Heading → List ℕ
 stepsText r steps TooLong = aloneText tooLongNo
 stepsText r steps Wrong = aloneText badFormNo
 stepsText r steps (Rows from) = ranText r (stepsFrom steps from)
 
--- "and a refused site sheet `0,N,0,0` with its number; .. the site's before the steps'"
+-- "and a refused site sheet `0,N,0,0` with its number; .. the site's before the steps'", with the column
 abbrev pub siteText : SiteRead → List ℕ → List ℕ
 siteText read steps =
     cond (eqb (verdictNo (read .verdict)) doneNo) (stepsText (read .«record») steps (headingOf steps)) (aloneText (verdictNo (read .verdict)))

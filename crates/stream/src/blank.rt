@@ -16,7 +16,7 @@ pub(crate) fn blank_numbers() -> [u16; MOST_STEPS]
     [0; MOST_STEPS]
 }
 
-pub(crate) fn blank_doors() -> [usize; MOST_STEPS]
+pub(crate) fn blank_held() -> [usize; MOST_STEPS]
     ensures { λ r. ⌜ length r ≡ mostSteps ⌝ }
 {
     [0; MOST_STEPS]

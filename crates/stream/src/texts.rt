@@ -13,7 +13,7 @@ ghost use Rattle.syslog.specs.Line.{streamOf};
 ghost use Rattle.stream_text.specs.Stream.{lineEventsIn, stepsEvents, eventsText};
 ghost use Rattle.stream_text.specs.Rows.{Heard, streamFrom};
 use crate::blank::blank_bytes;
-use crate::blank::blank_doors;
+use crate::blank::blank_held;
 use crate::blank::blank_numbers;
 use crate::rows::put_events;
 use findings::Printed;
@@ -69,7 +69,7 @@ fn print_run<'a>(
     let mut answers = blank_bytes();
     let mut phases = blank_bytes();
     let mut reasons = blank_bytes();
-    let mut held = blank_doors();
+    let mut held = blank_held();
     let _ran = step_list::run(
         fresh,
         kinds,

@@ -47,7 +47,7 @@ fn put_held(out: &mut [u8], at: usize, reason: usize, held: usize) -> usize
     put_number(out, number, held)
 }
 
-// The end of a line: a denial tells its reason.
+// The end of a line: a denial tells its reason, and with reason 3 the held door.
 fn put_reason(out: &mut [u8], at: usize, msgid: Msgid, reason: usize, held: usize) -> usize
     ensures { λ r. ⌜ Wrote (now (out .entry)) at (reasonPart msgid reason held) (now (out .exit)) r ⌝ }
 {

@@ -22,8 +22,8 @@ blank-bytes-requires-2 c κs = search needs
 blank-bytes-requires-3 : tie.Need-blank-bytes-requires-3
 blank-bytes-requires-3 c κs = search needs
 
-blank-doors-requires : tie.Need-blank-doors-requires
-blank-doors-requires c κs = search needs
+blank-held-requires : tie.Need-blank-held-requires
+blank-held-requires c κs = search needs
 
 slice-aggregate-serve : tie.Need-slice-aggregate-serve
 slice-aggregate-serve c = search needs
@@ -102,7 +102,7 @@ returns c =
     let in-answers = c .before .before .before .before .before .before .before .before .before .before .before .before .before .before .before .before .before .before .before .before .blank-bytes in
     let in-phases = c .before .before .before .before .before .before .before .before .before .before .before .before .before .before .before .before .before .before .before .blank-bytes2 in
     let in-reasons = c .before .before .before .before .before .before .before .before .before .before .before .before .before .before .before .before .before .before .blank-bytes3 in
-    let in-held = c .before .before .before .before .before .before .before .before .before .before .before .before .before .before .before .before .before .blank-doors in
+    let in-held = c .before .before .before .before .before .before .before .before .before .before .before .before .before .before .before .before .before .blank-held in
     let count : s .result .count ≡ length (steps .rows) = ap (λ (x : Served). x .count) (s .ensures .0) in
     let whole : s .result .whole ≡ steps .whole = ap (λ (x : Served). x .whole) (s .ensures .0) in
     let answers : take (s .result .count) (s .last .1 .1 .1 .0) ≡ map answerTold (repliesOf (a .fresh) (steps .rows)) = front-of _ (in-answers .result) (count ∙ sym (told-length answerTold (a .fresh) (steps .rows))) (omega (arith, in-answers .ensures)) (s .ensures .1 .1 .0) in
@@ -118,7 +118,7 @@ print-steps-spec =
     blank-bytes-requires
     blank-bytes-requires-2
     blank-bytes-requires-3
-    blank-doors-requires
+    blank-held-requires
     slice-aggregate-serve
     slice-aggregate-serve-2
     slice-aggregate-serve-3

@@ -50,7 +50,7 @@ print-events-requires c κs =
     let in-answers = c .before .before .before .before .before .before .before .before .before .before .before .before .before .before .before .before .before .blank-bytes in
     let in-phases = c .before .before .before .before .before .before .before .before .before .before .before .before .before .before .before .before .blank-bytes2 in
     let in-reasons = c .before .before .before .before .before .before .before .before .before .before .before .before .before .before .before .blank-bytes3 in
-    let in-held = c .before .before .before .before .before .before .before .before .before .before .before .before .before .before .blank-doors in
+    let in-held = c .before .before .before .before .before .before .before .before .before .before .before .before .before .before .blank-held in
     let e = c .before .before .before .before .before .before .before .before .before .run .ensures in
     let so = run-heard (a .fresh) (a .kinds .now) (a .doors .now) (a .persons .now) (pre .1 .1) (pre .1 .2) (shaped (c .before .before .before .before .before .before .before .before .before .before .before .before .before .before .before .before .before .before .before .before .before .before)) (pre .0) (in-answers .result) (in-phases .result) (in-reasons .result) (in-held .result) (omega (arith, few, in-answers .ensures)) (omega (arith, few, in-phases .ensures)) (omega (arith, few, in-reasons .ensures)) (omega (arith, few, in-held .ensures)) (e .1 .0) (e .1 .1 .0) (e .1 .1 .1 .0) (e .1 .1 .1 .1) in
     so .heard
@@ -63,7 +63,7 @@ returns c =
     let in-answers = c .before .before .before .before .before .before .before .before .before .before .before .before .before .before .before .before .before .before .before .before .blank-bytes in
     let in-phases = c .before .before .before .before .before .before .before .before .before .before .before .before .before .before .before .before .before .before .before .blank-bytes2 in
     let in-reasons = c .before .before .before .before .before .before .before .before .before .before .before .before .before .before .before .before .before .before .blank-bytes3 in
-    let in-held = c .before .before .before .before .before .before .before .before .before .before .before .before .before .before .before .before .before .blank-doors in
+    let in-held = c .before .before .before .before .before .before .before .before .before .before .before .before .before .before .before .before .before .blank-held in
     let e = c .before .before .before .before .before .before .before .before .before .before .before .before .run .ensures in
     let so = run-heard (a .fresh) (a .kinds .now) (a .doors .now) (a .persons .now) (pre .1 .1) (pre .1 .2) (shaped (c .before .before .before .before .before .before .before .before .before .before .before .before .before .before .before .before .before .before .before .before .before .before .before .before .before)) (pre .0) (in-answers .result) (in-phases .result) (in-reasons .result) (in-held .result) (omega (arith, few, in-answers .ensures)) (omega (arith, few, in-phases .ensures)) (omega (arith, few, in-reasons .ensures)) (omega (arith, few, in-held .ensures)) (e .1 .0) (e .1 .1 .0) (e .1 .1 .1 .0) (e .1 .1 .1 .1) in
     text-is _ _ (a .out .now) (so .stream) (c .before .before .print-events .ensures)
