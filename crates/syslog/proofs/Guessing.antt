@@ -83,11 +83,11 @@ held-mark Deny reason held f g = ap numberFrom (skips behindMark digit-no-mark r
 held-mark Pass reason held f g = none-held reason held f g
 held-mark Lapse reason held f g = none-held reason held f g
 
-pub blank-stops : (t : List ℕ) → Stops (personMark ++ t)
+blank-stops : (t : List ℕ) → Stops (personMark ++ t)
 unfolding isDigit andAlso
 blank-stops t = at-byte {b = 32} refl
 
-pub reason-stops : (m : Msgid) (reason held : ℕ) → Stops (reasonPart m reason held)
+reason-stops : (m : Msgid) (reason held : ℕ) → Stops (reasonPart m reason held)
 unfolding isDigit andAlso
 reason-stops Grant reason held = at-end
 reason-stops Deny reason held = at-byte {b = 32} refl

@@ -1,25 +1,26 @@
--- A DENY line with reason 3 has its held door behind the reason, and no line has one more. Assumes nothing.
+-- A DENY line with reason 3 has its held door behind the reason, and ` held=` stands nowhere else in a line. Assumes nothing.
 use Prim.Native.Nat.{ℕ, _≤_, _<_}
 use mathlib.Core.Path.{_≡_, refl, sym, ap, subst, _∙_}
-use mathlib.Core.Bool.{Bool, true, false, cond}
-use mathlib.Core.List.{List, [], _++_, append-assoc, append-nil, append-cancel-left}
+use mathlib.Core.Bool.{Bool, true, false, cond, false≢true}
+use mathlib.Core.List.{List, [], _∷_, _++_, append-assoc, append-nil, append-cancel-left, append-cancel-right, head-eq-of-cons-eq, tail-eq-of-cons-eq}
 use native.Mathlib.Omega.{arith}
-use borrow.Author.Tests.{eqb-true, eq-eqb}
+use borrow.Author.Tests.{eqb-true, eqb-false, eq-eqb}
 use lib.Dec.{eqb}
 use lib.ListN.{length}
-use Rattle.tables.specs.Tables.{andAlso}
-use Rattle.text.specs.Text.{decimal}
+use Rattle.text.specs.Text.{digits, decimal}
 use Rattle.syslog.specs.declared.Msgid.{Msgid}
 use Rattle.syslog.specs.declared.Msgid.the-variants.{Grant, Deny, Pass, Lapse}
 use Rattle.syslog.specs.declared.LineEvent.{LineEvent}
 use Rattle.syslog.specs.declared.LineRead.the-variants.{NotOurs}
-use Rattle.syslog.specs.Line.{personMark, reasonMark, heldMark, heldReason, heldPart, reasonPart, lineOf, headOf, ReasonFits, HeldFits, Fits}
-use Rattle.syslog.specs.Guess.{msgidIn, behindMark, isDigit, numberFrom}
+use Rattle.syslog.specs.Line.{personMark, reasonMark, heldMark, heldReason, heldPart, reasonPart, lineOf, headOf, tailOf, ReasonFits}
+use Rattle.syslog.specs.Rfc.{EachByte, no-more, and}
+use Rattle.syslog.specs.Guess.{msgidIn, behindMark, numberFrom}
 use Rattle.syslog.specs.Reading.{ReadsLine}
-use Rattle.syslog.specs.Claims.{withoutHeld, heldText, HeldTold}
-use Rattle.syslog.proofs.Digits.{Stops, at-end, at-byte, number-back}
+use Rattle.syslog.specs.Claims.{withoutHeld, heldText, EndsInHeld, HeldWithReason3}
+use Rattle.syslog.proofs.Digits.{Stops, at-end, number-back, each-both, each-digit}
 use Rattle.syslog.proofs.Lengths.{head-and-tail}
-use Rattle.syslog.proofs.Guessing.{head-msgid, head-mark, both-passed, held-stops, blank-stops, reason-stops}
+use Rattle.syslog.proofs.Guessing.{head-msgid, head-mark, both-passed, held-stops}
+use Rattle.syslog.proofs.Message.{each-wider}
 
 -- two texts that begin with a number and don't go on with a digit: the numbers are the same, and so is what follows
 number-first : {n m : ℕ} {x y : List ℕ} → n < 10000 → m < 10000 → Stops x → Stops y → decimal n ++ x ≡ decimal m ++ y → (n ≡ m) × (x ≡ y)
@@ -38,42 +39,6 @@ line-more m door person end t =
     append-assoc (headOf m) (decimal door ++ (personMark ++ (decimal person ++ end))) t
     ∙ ap (λ (x : List ℕ). headOf m ++ x) (append-assoc (decimal door) (personMark ++ (decimal person ++ end)) t)
     ∙ ap (λ (x : List ℕ). headOf m ++ (decimal door ++ (personMark ++ x))) (append-assoc (decimal person) end t)
-
--- ---- nothing stands behind a line but a digit more
-
-stops-both : {x t : List ℕ} → Stops x → Stops t → Stops (x ++ t)
-stops-both at-end s = s
-stops-both (at-byte e) s = at-byte e
-
-module _ {t : List ℕ} (stops : Stops t) where
-  part-last : (reason held other : ℕ) → HeldFits reason held → HeldFits reason other → heldPart reason held ++ t ≡ heldPart reason other → t ≡ []
-  part-last reason held other f g = go (eqb reason heldReason) refl
-    where
-      go : (b : Bool) → eqb reason heldReason ≡ b → cond b (heldMark ++ decimal held) [] ++ t ≡ cond b (heldMark ++ decimal other) [] → t ≡ []
-      go true b is =
-          let three = eqb-true reason heldReason b in
-          number-first (omega (arith, f .0 three)) (omega (arith, g .0 three)) stops at-end
-          (append-cancel-left heldMark (decimal held ++ t) (decimal other ++ []) (is ∙ ap (λ (x : List ℕ). heldMark ++ x) (sym (append-nil (decimal other))))) .1
-      go false b is = is
-
-  end-last : (m : Msgid) (r h s k : ℕ) → ReasonFits m r → HeldFits r h → ReasonFits m s → HeldFits s k → reasonPart m r h ++ t ≡ reasonPart m s k → t ≡ []
-  end-last Grant r h s k a b c d is = is
-  end-last Deny r h s k a b c d is =
-      let from = append-cancel-left reasonMark ((decimal r ++ heldPart r h) ++ t) (decimal s ++ heldPart s k) is in
-      let both = number-first (omega (arith, a .1)) (omega (arith, c .1)) (stops-both (held-stops r h) stops) (held-stops s k) (sym (append-assoc (decimal r) (heldPart r h) t) ∙ from) in
-      part-last r h k b (subst (λ (x : ℕ). HeldFits x k) (sym (both .0)) d) (both .1 ∙ ap (λ (x : ℕ). heldPart x k) (sym (both .0)))
-  end-last Pass r h s k a b c d is = is
-  end-last Lapse r h s k a b c d is = is
-
-  line-last : (e g : LineEvent) → Fits e → Fits g → lineOf e ++ t ≡ lineOf g → t ≡ []
-  line-last e g f h is =
-      let end = reasonPart (e .msgid) (e .reason) (e .held) in
-      let from = sym (line-more (e .msgid) (e .door) (e .person) end t) ∙ ap (λ (x : List ℕ). x ++ t) (sym (head-and-tail e)) ∙ is ∙ head-and-tail g in
-      let heads = heads-same (e .msgid) (g .msgid) from in
-      let doors = number-first {n = e .door} {m = g .door} (omega (arith, f .door)) (omega (arith, h .door)) (blank-stops _) (blank-stops _) (heads .1) in
-      let persons = append-cancel-left personMark _ _ (doors .1) in
-      let ends = number-first {n = e .person} {m = g .person} (omega (arith, f .person)) (omega (arith, h .person)) (stops-both (reason-stops (e .msgid) (e .reason) (e .held)) stops) (reason-stops (g .msgid) (g .reason) (g .held)) persons in
-      end-last (e .msgid) (e .reason) (e .held) (g .reason) (g .held) (f .reason) (f .held) (rw (← heads .0) at (h .reason)) (h .held) (rw (← heads .0) at (ends .1))
 
 -- ---- a denial with reason 3 that ends there
 
@@ -97,19 +62,109 @@ without-held door person e l =
     no-denial (e .msgid) (e .reason) (e .held) (heads-same Deny (e .msgid) is .0) (l .fits .reason)
     (sym (both-passed door person (reasonMark ++ decimal heldReason)) ∙ third ∙ both-passed (e .door) (e .person) (reasonPart (e .msgid) (e .reason) (e .held)))
 
--- ---- what is said of the held door
+-- ---- a denial with reason 3 and its door
 
 held-ends : (door person held : ℕ) → lineOf (record { msgid = Deny; door = door; person = person; reason = 3; held = held }) ≡ withoutHeld door person ++ heldText held
 held-ends door person held = head-and-tail _ ∙ sym (line-more Deny door person (reasonMark ++ decimal 3) (heldText held))
 
-text-stops : (held : ℕ) → Stops (heldText held)
-unfolding isDigit andAlso
-text-stops held = at-byte {b = 32} refl
+-- ---- where ` held=` stands
 
-pub held-told : HeldTold
-held-told =
-    record {
-      ends-in-it = held-ends;
-      not-without = without-held;
-      nowhere-else = λ e held f g l. let long = ap length (line-last (text-stops held) e g f (l .fits) (l .is)) in omega arith;
-    }
+-- no byte is the `h` of ` held=`, 104
+abbrev Plain : List ℕ → Type 0
+Plain bs = EachByte (λ (b : ℕ). b ≡ 104 → ⊥) bs
+
+withoutH : List ℕ → Bool
+withoutH [] = true
+withoutH (b ∷ bs) = cond (eqb b 104) false (withoutH bs)
+
+plain : (bs : List ℕ) → withoutH bs ≡ true → Plain bs
+unfolding withoutH
+plain [] e = no-more
+plain (b ∷ bs) e = go (eqb b 104) refl (plain bs) e
+  where
+    go : (t : Bool) → eqb b 104 ≡ t → (withoutH bs ≡ true → Plain bs) → cond t false (withoutH bs) ≡ true → Plain (b ∷ bs)
+    go true is more none = absurd (false≢true none)
+    go false is more none = and (eqb-false b 104 is) (more none)
+
+plain-number : (n : ℕ) → Plain (decimal n)
+plain-number n = each-wider (λ b d is. omega (arith, d .1)) (each-digit n)
+
+plain-head : (m : Msgid) → Plain (headOf m)
+unfolding decimal digits withoutH
+plain-head Grant = plain (headOf Grant) refl
+plain-head Deny = plain (headOf Deny) refl
+plain-head Pass = plain (headOf Pass) refl
+plain-head Lapse = plain (headOf Lapse) refl
+
+-- a line is plain up to its end
+plain-line : (m : Msgid) (door person : ℕ) {end : List ℕ} → Plain end → Plain (headOf m ++ (decimal door ++ (personMark ++ (decimal person ++ end))))
+unfolding withoutH
+plain-line m door person end =
+    each-both (plain-head m) (each-both (plain-number door) (each-both (plain personMark refl) (each-both (plain-number person) end)))
+
+plain-reason : (reason : ℕ) → Plain (reasonMark ++ decimal reason)
+unfolding withoutH
+plain-reason reason = each-both (plain reasonMark refl) (plain-number reason)
+
+-- a text with an `h` isn't plain, and one with a single `h` is cut there in one way
+no-h : (front rest : List ℕ) → Plain (front ++ (104 ∷ rest)) → ⊥
+no-h [] rest (and other on) = other refl
+no-h (b ∷ front) rest (and other on) = no-h front rest on
+
+one-h : (a b c d : List ℕ) → a ++ (104 ∷ b) ≡ c ++ (104 ∷ d) → Plain c → Plain d → (a ≡ c) × (b ≡ d)
+one-h [] b [] d e f g = (refl, tail-eq-of-cons-eq e)
+one-h [] b (y ∷ c) d e (and other on) g = absurd (other (sym (head-eq-of-cons-eq e)))
+one-h (x ∷ a) b [] d e f g = absurd (no-h a b (subst Plain (sym (tail-eq-of-cons-eq e)) g))
+one-h (x ∷ a) b (y ∷ c) d e (and other on) g =
+    let both = one-h a b c d (tail-eq-of-cons-eq e) on g in
+    let first = head-eq-of-cons-eq e in
+    let rest = both .0 in
+    ((λ i. first i ∷ rest i), both .1)
+
+-- ` held=` is a blank, an `h` and `eld=`
+abbrev behindH : List ℕ → List ℕ
+behindH t = 101 ∷ 108 ∷ 100 ∷ 61 ∷ t
+
+at-h : (front rest : List ℕ) → front ++ (heldMark ++ rest) ≡ (front ++ (32 ∷ [])) ++ (104 ∷ behindH rest)
+at-h front rest = sym (append-assoc front (32 ∷ []) (104 ∷ behindH rest))
+
+module _ (front rest : List ℕ) (e : LineEvent) (is : front ++ (heldMark ++ rest) ≡ lineOf e) where
+  line-here : (front ++ (32 ∷ [])) ++ (104 ∷ behindH rest) ≡ headOf (e .msgid) ++ tailOf e
+  line-here = sym (at-h front rest) ∙ is ∙ head-and-tail e
+
+  -- the end of the line isn't plain
+  not-plain : Plain (reasonPart (e .msgid) (e .reason) (e .held)) → ⊥
+  not-plain end = no-h (front ++ (32 ∷ [])) (behindH rest) (subst Plain (sym line-here) (plain-line (e .msgid) (e .door) (e .person) end))
+
+  -- so it is that of a denial with reason 3
+  held-behind : e .msgid ≡ Deny → e .reason ≡ 3 → EndsInHeld front rest e
+  unfolding withoutH
+  held-behind m r =
+      let whole : lineOf e ≡ withoutHeld (e .door) (e .person) ++ heldText (e .held) =
+      (λ i. lineOf (record { msgid = m i; door = e .door; person = e .person; reason = r i; held = e .held })) ∙ held-ends (e .door) (e .person) (e .held) in
+      let both =
+      one-h (front ++ (32 ∷ [])) (behindH rest) (withoutHeld (e .door) (e .person) ++ (32 ∷ [])) (behindH (decimal (e .held))) (sym (at-h front rest) ∙ is ∙ whole ∙ at-h (withoutHeld (e .door) (e .person)) (decimal (e .held)))
+      (each-both (plain-line Deny (e .door) (e .person) (plain-reason 3)) (plain (32 ∷ []) refl)) (each-both (plain (behindH []) refl) (plain-number (e .held)))
+      in
+      record {
+        denial = m;
+        reason = r;
+        before = append-cancel-right front (withoutHeld (e .door) (e .person)) (32 ∷ []) (both .0);
+        behind = append-cancel-left (behindH []) rest (decimal (e .held)) (both .1);
+      }
+
+  held-only : EndsInHeld front rest e
+  held-only = go (e .msgid) refl
+    where
+      denied : e .msgid ≡ Deny → (t : Bool) → eqb (e .reason) heldReason ≡ t → EndsInHeld front rest e
+      denied m true b = held-behind m (eqb-true (e .reason) heldReason b)
+      denied m false b = absurd (not-plain (rw (m, b, append-nil (decimal (e .reason))) (plain-reason (e .reason))))
+
+      go : (m : Msgid) → e .msgid ≡ m → EndsInHeld front rest e
+      go Grant m = absurd (not-plain (rw m no-more))
+      go Deny m = denied m (eqb (e .reason) heldReason) refl
+      go Pass m = absurd (not-plain (rw m no-more))
+      go Lapse m = absurd (not-plain (rw m no-more))
+
+pub held-reason-3 : HeldWithReason3
+held-reason-3 = record { ends-in-it = held-ends; not-without = without-held; nowhere-else = λ front rest e l. held-only front rest e (l .is) }

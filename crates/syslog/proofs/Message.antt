@@ -36,7 +36,7 @@ each-within least most (b ∷ bs) e =
     and (leb-true least b (and-left (leb least b) (leb b most) here), leb-true b most (and-right (leb least b) (leb b most) here))
     (each-within least most bs (and-right (andAlso (leb least b) (leb b most)) (allWithin least most bs) e))
 
-each-wider : {P Q : ℕ → Type 0} {bs : List ℕ} → ((b : ℕ) → P b → Q b) → EachByte P bs → EachByte Q bs
+pub each-wider : {P Q : ℕ → Type 0} {bs : List ℕ} → ((b : ℕ) → P b → Q b) → EachByte P bs → EachByte Q bs
 each-wider wide no-more = no-more
 each-wider wide (and {b} p on) = and (wide b p) (each-wider wide on)
 

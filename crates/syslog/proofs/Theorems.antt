@@ -6,7 +6,7 @@
 --     only-lines-read        what reads as an event is its line; every other list of bytes gets 15
 --     only-frames-read       the same of the frame at a place of a stream
 --     lines-apart            no two events share a line
---     held-with-reason-3     a denial with reason 3 ends in its held door and isn't read without it; nothing else has one
+--     held-with-reason-3     a denial with reason 3 ends in its held door and isn't read without it; ` held=` stands nowhere else in a line
 --     streams-apart          no two lists of events share a run of framed lines
 --     stream-read-back       reading frame after frame gives the very list of events, and stops at the end
 --     one-stream-reading            and no stream has two readings
@@ -23,10 +23,10 @@ use Rattle.syslog.specs.declared.FrameRead.the-variants as frame
 use Rattle.syslog.specs.Line.{lineOf, streamOf, Fits, AllFit}
 use Rattle.syslog.specs.Rfc.{TcpData}
 use Rattle.syslog.specs.Reading.{LineIs, ReadsLine, ReadsFrame, StreamSays, StreamReading}
-use Rattle.syslog.specs.Claims.{LineIsRfc5424, FrameIsRfc6587, ReadBack, OnlyLinesRead, OnlyFramesRead, HeldTold}
+use Rattle.syslog.specs.Claims.{LineIsRfc5424, FrameIsRfc6587, ReadBack, OnlyLinesRead, OnlyFramesRead, HeldWithReason3}
 use Rattle.syslog.proofs.Message.{line-message, frame-frame, stream-data}
 use Rattle.syslog.proofs.Finding.{line-once, line-reads, frame-reads}
-use Rattle.syslog.proofs.Held.{held-told}
+use Rattle.syslog.proofs.Held.{held-reason-3}
 use Rattle.syslog.proofs.Streams.{line-told-once, frame-told-once, says-once, stream-back, stream-reads}
 use Rattle.syslog.proofs.Written.{written-line, written-frame}
 
@@ -72,8 +72,8 @@ read-back e f =
 pub lines-apart : (e f : LineEvent) → Fits e → Fits f → lineOf e ≡ lineOf f → e ≡ f
 lines-apart e f a b same = line-once (record { fits = a; is = refl }) (record { fits = b; is = same })
 
-pub held-with-reason-3 : HeldTold
-held-with-reason-3 = held-told
+pub held-with-reason-3 : HeldWithReason3
+held-with-reason-3 = held-reason-3
 
 pub one-stream-reading : (s : List ℕ) (at : ℕ) (es fs : List LineEvent) (v w : Bool) → StreamSays s at es v → StreamSays s at fs w → (es ≡ fs) × (v ≡ w)
 one-stream-reading s at es fs v w x y = says-once x y

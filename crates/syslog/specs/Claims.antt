@@ -11,7 +11,7 @@ use Rattle.syslog.specs.declared.LineRead.{LineRead}
 use Rattle.syslog.specs.declared.LineRead.the-variants as line
 use Rattle.syslog.specs.declared.FrameRead.{FrameRead}
 use Rattle.syslog.specs.declared.FrameRead.the-variants as frame
-use Rattle.syslog.specs.Line.{facility, severityOf, nameOf, personMark, reasonMark, heldMark, messageOf, lineOf, headOf, framedOf, Fits}
+use Rattle.syslog.specs.Line.{facility, severityOf, nameOf, personMark, reasonMark, heldMark, messageOf, lineOf, headOf, framedOf}
 use Rattle.syslog.specs.Rfc.{numberSaid, Priority, nilValue, SyslogMsg, IsSyslogMsg, IsFrame}
 use Rattle.syslog.specs.Reading.{LineIs, ReadsLine, FrameAt}
 use Rattle.syslog.specs.Lent.{Writes}
@@ -74,10 +74,17 @@ withoutHeld door person = headOf Deny ++ (decimal door ++ (personMark ++ (decima
 abbrev pub heldText : ℕ → List ℕ
 heldText held = heldMark ++ decimal held
 
+-- these bytes with ` held=` between them are the line of a denial with reason 3, up to its end
+pub record EndsInHeld (front rest : List ℕ) (e : LineEvent) : Type 0 where
+  pub denial : e .msgid ≡ Deny
+  pub reason : e .reason ≡ 3
+  pub before : front ≡ withoutHeld (e .door) (e .person)
+  pub behind : rest ≡ decimal (e .held)
+
 -- C-12: "DENY lines with reason 3 end in ` held=` and the door", "reading, 15 without it"
-pub record HeldTold : Type 0 where
+pub record HeldWithReason3 : Type 0 where
   pub ends-in-it : (door person held : ℕ)
       → lineOf (record { msgid = Deny; door = door; person = person; reason = 3; held = held }) ≡ withoutHeld door person ++ heldText held
   pub not-without : (door person : ℕ) → ReadsLine (withoutHeld door person) line.NotOurs
-  -- and behind no line stands another: not behind one with another reason, nor behind one that is no denial
-  pub nowhere-else : (e : LineEvent) (held : ℕ) → Fits e → ReadsLine (lineOf e ++ heldText held) line.NotOurs
+  -- the issue of C-12: 15 "for a ` held=` anywhere else". Bytes that have one somewhere are a line of ours in this way alone
+  pub nowhere-else : (front rest : List ℕ) (e : LineEvent) → LineIs (front ++ (heldMark ++ rest)) e → EndsInHeld front rest e

@@ -46,9 +46,9 @@ pub record LineExamples : Type 0 where
   -- "severity is 6, but 5 for a denial, which adds ` reason=` and the number": `<85>1 - - - - DENY - door=63 person=10 reason=2`
   pub denial : lineOf (record { msgid = Deny; door = 63; person = 10; reason = 2; held = 0 })
       ≡ 60 ∷ 56 ∷ 53 ∷ 62 ∷ nils (68 ∷ 69 ∷ 78 ∷ 89 ∷ atDoorSign (54 ∷ 51 ∷ personSign (49 ∷ 48 ∷ reasonSign (50 ∷ []))))
-  -- C-12, "DENY lines with reason 3 end in ` held=` and the door": `<85>1 - - - - DENY - door=1 person=0 reason=3 held=0`
-  pub held : lineOf (record { msgid = Deny; door = 1; person = 0; reason = 3; held = 0 }) ≡ denied10 (51 ∷ heldSign (48 ∷ []))
-  -- "15 without it"; and no line with another reason has it, nor one that is no denial
+  -- C-12, "DENY lines with reason 3 end in ` held=` and the door": `<85>1 - - - - DENY - door=1 person=0 reason=3 held=42`
+  pub held : lineOf (record { msgid = Deny; door = 1; person = 0; reason = 3; held = 42 }) ≡ denied10 (51 ∷ heldSign (52 ∷ 50 ∷ []))
+  -- "15 without it"; and so with another reason, and with no denial
   pub without-held : ReadsLine (denied10 (51 ∷ [])) NotOurs
   pub held-with-1 : ReadsLine (denied10 (49 ∷ heldSign (48 ∷ []))) NotOurs
   pub held-granted : ReadsLine (line31 ++ heldSign (48 ∷ [])) NotOurs
