@@ -48,5 +48,6 @@ module _ (site : List ℕ) (e : siteOf site .verdict ≡ Accepted) (steps : List
       record {
         panel = rw (replies-heard fresh (said .rows)) panel-prints;
         decided = three .decided;
+        held-open = three .held-open;
         places = where-prints ∙ sym (λ i. placesText (take (people i) (three .places i)));
       }

@@ -97,15 +97,16 @@ pub record Decided (r : Record) (d : ℕ) (s : Step) : Type 0 where
   pub denied-when : (s .phase ≡ denied) ↔ (Admitted r d (getD (r .holder) d 0) → ⊥)
   pub green-then : Admitted r d (getD (r .holder) d 0) → Light (s .next) d Green Red green
   pub red-then : (Admitted r d (getD (r .holder) d 0) → ⊥) → Light (s .next) d Red Green red
-  -- "the first that applies", in 01's words and by the chapter's guards, with its door; 0 where all three hold
+  -- "the first that applies", in 01's words; and by the chapter's guards, with its door; 0 where all three hold
   pub reason : First r d (getD (r .holder) d 0) (s .reason)
   pub guard : FirstFailing (constantsOf r) (stateOf r) (getD (r .holder) d 0) d (s .reason) (s .held)
 
 -- "`decide` must tell the door that is granted to the person, together with the reason" (02, C-12): s is what `decide` answered
 pub record HeldIsTheGrant (r : Record) (d : ℕ) (s : Step) : Type 0 where
-  -- that door and no other is in phases 2 to 5 with the person whose card door d holds, ..
+  -- in 01's words: that door and no other is in phases 2 to 5 with the person whose card door d holds, ..
   pub the-door : s .reason ≡ reasonBusy → (e : ℕ) → (e ≡ s .held) ↔ GrantAt (r .doors) (r .phase) (r .holder) (getD (r .holder) d 0) e
-  -- .. by the chapter, dap(p); and it isn't door d itself, which holds a card and no grant
+  -- .. and by the chapter: it is dap(p), which a record reads as just these grants (`mapOf`). It isn't door d itself, which holds a card
+  -- and no grant
   pub by-dap : s .reason ≡ reasonBusy → (e : ℕ) → (e ≡ s .held) ↔ stateOf r .map dap (getD (r .holder) d 0) e
   pub elsewhere : s .reason ≡ reasonBusy → s .held ≡ d → ⊥
   -- "0 with any other reason"

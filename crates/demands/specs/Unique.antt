@@ -15,7 +15,7 @@ use Rattle.tables.specs.Tables.{mostPeople, mostLocations}
 use Rattle.findings.specs.declared.Printed.{Printed}
 use Rattle.text.specs.Printed.{Prints}
 use Rattle.record.specs.declared.record.Record.{Record}
-use Rattle.record.specs.Steps.{First}
+use Rattle.record.specs.Steps.{First, HeldDoor}
 use Rattle.verdict.specs.declared.Verdict.{Verdict}
 use Rattle.grammar.specs.declared.cut.Cells.{Cells}
 use Rattle.grammar.specs.Rows.{rowsFrom}
@@ -82,10 +82,11 @@ pub record RunUnique : Type 0 where
   pub blank-events-text : Unique (λ (x : List ℕ). x ≡ replicate mostEventsText 0)
 
 -- Where the papers say an answer by its conditions, not by a definition, they too allow one alone: the number and the place that
--- the table gives a site sheet, the first reason that applies, and the heading and the steps of a steps sheet.
+-- the table gives a site sheet, the first reason that applies, the door told with it, and the heading and the steps of a steps sheet.
 pub record PapersUnique : Type 0 where
   pub table-of-numbers : (s : List ℕ) → Unique (Gives limit s)
   pub first-reason : (r : Record) (d p : ℕ) → Unique (First r d p)
+  pub held-door : (r : Record) (p why : ℕ) → Unique (HeldDoor r p why)
   pub heading : (most : ℕ) (s : List ℕ) → Unique (HeadingSays most s)
   pub steps : (text : List ℕ) → Unique (λ (x : Steps). TextSaysSteps text (x .rows) (x .whole))
 
