@@ -6,7 +6,7 @@
 #include <stdlib.h>
 #include <string.h>
 
-enum { LONGEST_SHEET = 49152, MOST_TEXT = 98304 };
+enum { LONGEST_SHEET = 49152, MOST_TEXT = 93184 };
 enum { MOST_PEOPLE = 64, MOST_LOCATIONS = 32, MOST_DOORS = 64 };
 enum { GREEN_TICKS = 300, RED_TICKS = 20 };
 enum { DONE = 0, TOO_LONG = 1, BAD_FORM = 2, OUT_OF_RANGE = 3, TWICE = 4, NO_SITE_ROW = 5, NO_EXIT = 6, NO_WAY_OUT = 7,

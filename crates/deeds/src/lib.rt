@@ -38,7 +38,7 @@ pub struct Told {
 pub enum Deed {
     // nothing; this answer and this phase are told
     Tells(Answer, u8),
-    // the door becomes so, and this reason is told, with this door
+    // the door becomes so, and this reason is told, with this held door
     Puts(Door, u8, usize),
     // the door becomes so, and this person is in this location
     Leads(Door, usize, u8),

@@ -29,8 +29,8 @@ pub record PrintedAsServed (site steps : List ℕ) (said : Steps) : Type 0 where
   -- lines alone;
   pub decided : (d : ℕ) → Alike (decidedAt d (heardIn site said))
       (decisionsAt d (siteOf site .«record») (recorded (eventsOf noSpells 1 (heardIn site said))) ++ grantOpen (standing (spellsOf noSpells 1 (heardIn site said) d)))
-  -- the door that a row of reason 3 names is, by the lines before it, one whose own card of the same person was granted and has neither
-  -- passed nor lapsed since;
+  -- the door that a `decide` row answered 0 names with reason 3 is, by the lines before it, one whose own card of the same person was
+  -- granted and has neither passed nor lapsed since;
   pub held-open : NamesOpenGrants (eventsOf noSpells 1 (heardIn site said))
   -- and what `where` prints is what the served record prints
   pub places : whereText site steps ≡ recordText (servedIn (siteOf site .«record») (said .rows))

@@ -67,8 +67,8 @@ fn room(list: usize, short: usize) -> usize
     1
 }
 
-// A run of one step in which the list of this number has no room: its answer, and the four lists, which held this before. The record
-// that it hands back.
+// A run of one step in which the list of this number has no room (with the number LISTS each has): its answer, and the four lists, which
+// held this before. The record that it hands back.
 pub fn write_ran(
     kind: u8,
     door: usize,

@@ -103,7 +103,7 @@ fn run_rows<'a>(
 }
 
 // Runs a list of steps: the number of each step, its door and its person are lent, and the
-// answer, the phase, the reason of each and the door told with it are written into the lists lent for them.
+// answer, the phase, the reason and the held door of each are written into the lists lent for them.
 pub fn run<'a>(
     start: Record,
     steps: &'a [u8],
