@@ -316,8 +316,8 @@ static bool is_allowed(enum step step, int phase)
     switch (step) {
     case CARD: return phase == FREE;
     case DECIDE: return phase == READ;
-    case GREEN_ON: return phase == GRANTED || phase == GREEN;
-    case RED_ON: return phase == DENIED || phase == RED;
+    case GREEN_ON: return phase == GRANTED;
+    case RED_ON: return phase == DENIED;
     case WALK: return phase == GREEN;
     case TICK: return true;
     case PASSED: return phase == WALKED;

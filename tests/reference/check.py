@@ -5,7 +5,7 @@ Run it from anywhere.
 """
 import sys
 
-from panel import EXPIRED, GREEN, Panel, Refused, panel_text, read_site, verdict, where_text
+from panel import DIMMED, EXPIRED, GREEN, RED, Panel, Refused, panel_text, read_site, verdict, where_text
 from syslog_lines import LONGEST_STREAM, events_text, frame, line, read_events_text, read_frame, read_line, write
 
 SITE = ["site,2,3", "door,0,1", "door,1,2", "door,2,1", "door,1,0", "exit,1,0", "exit,2,1", "right,0,1", "right,0,2", "right,1,1"]
@@ -110,6 +110,18 @@ def twelve_cases():
     expect("case 12", site.way_out(2), [1, 0])
 
 
+def orders_twice():
+    """C-13: an order for a light that burns is refused, and the light is out when it would have been."""
+    panel = Panel(read_site(site_sheet()))
+    expect("the first green", served(panel, ("card", 0, 0), ("decide", 0), ("green", 0)), (0, GREEN, 0, 0))
+    expect("green again", served(panel, ("green", 0)), (12, GREEN, 0, 0))
+    expect("green again at the last tick but one", served(panel, *[("tick", 0)] * 299, ("green", 0)), (12, GREEN, 0, 0))
+    expect("300 ticks after the first", served(panel, ("tick", 0)), (0, EXPIRED, 0, 0))
+    expect("the first red", served(panel, ("card", 1, 0), ("decide", 1), ("red", 1)), (0, RED, 0, 0))
+    expect("red again", served(panel, *[("tick", 1)] * 19, ("red", 1)), (12, RED, 0, 0))
+    expect("20 ticks after the first", served(panel, ("tick", 1)), (0, DIMMED, 0, 0))
+
+
 def held_doors():
     """C-12: with reason 3 the door that is granted to the person, whatever else was granted, and 0 with all else."""
     two_more = sheet("kind,a,b", SITE + ["door,0,1", "door,0,2"])
@@ -192,6 +204,7 @@ def streams_read():
 
 whole_run()
 twelve_cases()
+orders_twice()
 held_doors()
 rows_alone()
 lines_written()

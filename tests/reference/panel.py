@@ -218,9 +218,9 @@ class Panel:
             reason, held = self.judged(door, holder)
             self.put(door, DENIED if reason else GRANTED, 0 if reason else holder)
             self.events.append(("DENY" if reason else "GRANT", door, holder, reason, held))
-        elif name == "green" and phase in (GRANTED, GREEN):
+        elif name == "green" and phase == GRANTED:
             self.put(door, GREEN, holder, GREEN_TICKS)
-        elif name == "red" and phase in (DENIED, RED):
+        elif name == "red" and phase == DENIED:
             self.put(door, RED, 0, RED_TICKS)
         elif name == "walk" and phase == GREEN:
             self.put(door, WALKED, holder)

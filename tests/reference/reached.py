@@ -13,9 +13,10 @@ LIMITS = (LONGEST_SHEET, LONGEST_SHEET + 1)
 # The first place that a number can be told with: the header, the first or the second data row, location 1, person 0.
 FIRST_PLACES = {2: 0, 3: 1, 4: 2, 6: 1, 7: 1, 8: 1, 9: 0, 10: 0}
 
-# 01, "Steps": for each step the phases that allow it, each with those that it leads to. A `tick` alters nothing in any other.
-LEADS = {"card": {FREE: [READ]}, "decide": {READ: [GRANTED, DENIED]}, "green": {GRANTED: [GREEN], GREEN: [GREEN]},
-         "red": {DENIED: [RED], RED: [RED]}, "walk": {GREEN: [WALKED]}, "tick": {GREEN: [GREEN, EXPIRED], RED: [RED, DIMMED]},
+# 01, "Steps", mended by C-13: for each step the phases that allow it, each with those that it leads to. A `tick` alters nothing in any
+# other.
+LEADS = {"card": {FREE: [READ]}, "decide": {READ: [GRANTED, DENIED]}, "green": {GRANTED: [GREEN]},
+         "red": {DENIED: [RED]}, "walk": {GREEN: [WALKED]}, "tick": {GREEN: [GREEN, EXPIRED], RED: [RED, DIMMED]},
          "passed": {WALKED: [CLOSED]}, "lapsed": {EXPIRED: [CLOSED]}, "dark": {DIMMED: [CLOSED]}, "ack": {CLOSED: [FREE]}}
 
 
@@ -65,7 +66,7 @@ DENIED_LATER = "a denial by reason 3 of a person whose first grant was at anothe
 
 
 def put_out(phase):
-    return f"a light in phase {phase} that was set again and then burned its span"
+    return f"a light in phase {phase} that was ordered again, and went out all the same"
 
 
 def happened(word, what, number):
@@ -119,7 +120,7 @@ def reached_by_denial(panel, door, person, held):
 
 
 def reached_by_step(panel, again, name, door, person):
-    """What a step reaches; `again` has the doors whose light was set again while it burned."""
+    """What a step reaches; `again` has the doors whose light was ordered again while it burned."""
     if door >= len(panel.phase):
         yield answered(name, "at no door", *panel.step(name, door, person))
         return
@@ -128,8 +129,10 @@ def reached_by_step(panel, again, name, door, person):
     yield answered(name, in_phase(before), answer, after, reason, held)
     if reason == ELSEWHERE:
         yield from reached_by_denial(panel, door, holder, held)
-    if answer == 0 and name in ("green", "red"):
-        (again.add if before == after else again.discard)(door)
+    if (name, before) in (("green", GREEN), ("red", RED)):
+        again.add(door)
+    elif before == FREE:
+        again.discard(door)
     if (before, after) in ((GREEN, EXPIRED), (RED, DIMMED)) and door in again:
         yield put_out(before)
     for word, at, whose, *_ in panel.events[events:]:

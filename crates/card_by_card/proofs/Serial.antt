@@ -228,7 +228,7 @@ pub record Serves (r : Record) (e : RunEvent) (after : Record) : Type 0 where
   pub rest : after ≡ placed r (after .place)
 
 -- a door put as it is, is no change
-pub put-as-is : (r : Record) (d : ℕ) (c : Door) → doorOf r d ≡ c → putDoor r d c ≡ r
+put-as-is : (r : Record) (d : ℕ) (c : Door) → doorOf r d ≡ c → putDoor r d c ≡ r
 put-as-is r d c e = subst (λ (x : Door). putDoor r d x ≡ r) e same
   where
     same : putDoor r d (doorOf r d) ≡ r

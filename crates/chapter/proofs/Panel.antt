@@ -22,13 +22,13 @@ use Rattle.machines.specs.M1 as m1
 use Rattle.machines.specs.M2 as m2
 use Rattle.machines.specs.M3 as m3
 use Rattle.machines.specs.M4 as m4
-use Rattle.chapter.specs.Reading.{constantsIn, constantsOf, stateOf, stateOf3, stateOf2, stateOf1, Enabled, Idle}
-use Rattle.chapter.specs.Panel.{MoveOf, done, idle, refused, move3, move2, move1, move0, StepOfEach, OneMove, RunOfEach, stop, step}
+use Rattle.chapter.specs.Reading.{constantsIn, constantsOf, stateOf, stateOf3, stateOf2, stateOf1, MayAct, Uneventful}
+use Rattle.chapter.specs.Panel.{MoveOf, done, uneventful, refused, move3, move2, move1, move0, StepOfEach, OneMove, RunOfEach, stop, step}
 use Rattle.chapter.proofs.Site.{axioms}
 use Rattle.chapter.proofs.Invariants.{inv0, inv2, inv3, inv4}
 use Rattle.machines.proofs.Refine.{same-refl, M1-refines-M0, M2-refines-M1, M3-refines-M2, M4-refines-M3, step-seen}
 use Rattle.chapter.proofs.Steps.{follows, enabled, by-tick}
-use Rattle.chapter.proofs.Stands.{stands-once, idle-stands}
+use Rattle.chapter.proofs.Stands.{stands-once, uneventful-stands}
 
 -- ---- the invariants
 
@@ -44,8 +44,8 @@ done-or-not NotAllowed = inr (λ e. omega (arith, ap answerNo e))
 done-or-not TooShort = inr (λ e. omega (arith, ap answerNo e))
 done-or-not Unsound = inr (λ e. omega (arith, ap answerNo e))
 
-pub idles : (r : Record) (k : Kind) (d p : ℕ) → Shaped r → Sound r → Idle r k d → Same (stateOf (stepOf r k d p .next)) (stateOf r)
-idles r k d p sh s i =
+pub tick-same : (r : Record) (k : Kind) (d p : ℕ) → Shaped r → Sound r → Uneventful r k d → Same (stateOf (stepOf r k d p .next)) (stateOf r)
+tick-same r k d p sh s i =
     subst (λ (x : Kind). Same (stateOf (stepOf r x d p .next)) (stateOf r)) (sym (i .tick)) (by-tick r sh s d p (i .exists) (i .green-on) (i .red-on))
 
 -- every step, refused or done, is one step of a run of the fourth refinement, by the move that it is
@@ -55,10 +55,11 @@ Moved r row = (o : Move m4.Event) × MoveOf r row o × MachineStep (m4.machine (
 one-move : (r : Record) (row : StepRow) → Shaped r → Sound r → Moved r row
 one-move r row sh s = ⊎-elim (λ e. acts e (enabled r sh s (row .at) (row .person) (row .kind) e)) stays (done-or-not (rowOf r row .answer))
   where
-    acts : rowOf r row .answer ≡ Done → Enabled r (row .kind) (row .at) (row .person) ⊎ Idle r (row .kind) (row .at) → Moved r row
-    acts ok (inl e) =
-        (event (e .event), done (e .event) ok (e .stands), (e .guard, follows r sh s (row .at) (row .person) (row .kind) (e .event) (e .stands) (e .guard) .1))
-    acts ok (inr i) = (skip, idle i, idles r (row .kind) (row .at) (row .person) sh s i)
+    acts : rowOf r row .answer ≡ Done → MayAct r (row .kind) (row .at) (row .person) ⊎ Uneventful r (row .kind) (row .at) → Moved r row
+    acts ok (inl may) =
+        let e = may .enabled in
+        (event (e .event), done (e .event) ok (e .stands), (e .guard, follows r sh s (row .at) (row .person) (row .kind) (e .event) (e .stands) (e .guard) (may .unlit) .1))
+    acts ok (inr i) = (skip, uneventful i, tick-same r (row .kind) (row .at) (row .person) sh s i)
 
     stays : (rowOf r row .answer ≡ Done → ⊥) → Moved r row
     stays ne =
@@ -87,13 +88,13 @@ each-step r next o s fourth = record { fourth = fourth; third = third; second = 
 -- no row is two moves
 pub only-move : (r : Record) (row : StepRow) → OneMove r row
 only-move r row o u (done e a st) x (done f b sf) y = ap event (stands-once r (row .kind) (row .at) (row .person) e f st (x .fourth .0) sf (y .fourth .0))
-only-move r row o u (done e a st) x (idle i) y = absurd (idle-stands r (row .kind) (row .at) (row .person) e i st)
+only-move r row o u (done e a st) x (uneventful i) y = absurd (uneventful-stands r (row .kind) (row .at) (row .person) e i st)
 only-move r row o u (done e a st) x (refused ne) y = absurd (ne a)
-only-move r row o u (idle i) x (done f b st) y = absurd (idle-stands r (row .kind) (row .at) (row .person) f i st)
-only-move r row o u (idle i) x (idle j) y = refl
-only-move r row o u (idle i) x (refused ne) y = refl
+only-move r row o u (uneventful i) x (done f b st) y = absurd (uneventful-stands r (row .kind) (row .at) (row .person) f i st)
+only-move r row o u (uneventful i) x (uneventful j) y = refl
+only-move r row o u (uneventful i) x (refused ne) y = refl
 only-move r row o u (refused ne) x (done f b st) y = absurd (ne b)
-only-move r row o u (refused ne) x (idle i) y = refl
+only-move r row o u (refused ne) x (uneventful i) y = refl
 only-move r row o u (refused ne) x (refused nf) y = refl
 
 -- a step leaves the constants as they were

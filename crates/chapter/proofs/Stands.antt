@@ -30,7 +30,7 @@ use Rattle.machines.specs.M3.{Maps, dap, mCard}
 use Rattle.machines.specs.M4 as m4
 use Rattle.machines.specs.M4.{Sets, mAckn, mAccept, mRefuse}
 use Rattle.machines.specs.M4.{Event, CARD, pass, ACCEPT, PASS, off-grn, REFUSE, OFF-RED, off-red, ACKN}
-use Rattle.chapter.specs.Reading.{constantsOf, isIn, DoorIn, CardAt, stateOf, stateOf3, StandsFor, Enabled, Idle, FirstFailing}
+use Rattle.chapter.specs.Reading.{constantsOf, isIn, DoorIn, CardAt, stateOf, stateOf3, StandsFor, Enabled, MayAct, Uneventful, FirstFailing}
 use Rattle.chapter.specs.Reading.{card, grant, denial, green-order, walk, expiry, passage, lapse, red-order, dimming, darkness, acknowledgement}
 use Rattle.chapter.specs.Panel.{doorAt, Live}
 use Rattle.chapter.proofs.Invariants.{in-BLR, in-grn, grants-of, blocked, one-of-the-four}
@@ -59,20 +59,20 @@ stands-once r k d p e f red-order g red-order h = refl
 stands-once r k d p e f darkness g darkness h = refl
 stands-once r k d p e f acknowledgement g acknowledgement h = refl
 
--- a tick that is idle stands for none
-pub idle-stands : (r : Record) (k : Kind) (d p : ℕ) (e : Event) → Idle r k d → StandsFor r d p k e → ⊥
-idle-stands r k d p e i card = omega (arith, ap numberOfKind (i .tick))
-idle-stands r k d p e i grant = omega (arith, ap numberOfKind (i .tick))
-idle-stands r k d p e i denial = omega (arith, ap numberOfKind (i .tick))
-idle-stands r k d p e i green-order = omega (arith, ap numberOfKind (i .tick))
-idle-stands r k d p e i walk = omega (arith, ap numberOfKind (i .tick))
-idle-stands r k d p e i (expiry at last) = omega (arith, i .green-on at)
-idle-stands r k d p e i passage = omega (arith, ap numberOfKind (i .tick))
-idle-stands r k d p e i lapse = omega (arith, ap numberOfKind (i .tick))
-idle-stands r k d p e i red-order = omega (arith, ap numberOfKind (i .tick))
-idle-stands r k d p e i (dimming at last) = omega (arith, i .red-on at)
-idle-stands r k d p e i darkness = omega (arith, ap numberOfKind (i .tick))
-idle-stands r k d p e i acknowledgement = omega (arith, ap numberOfKind (i .tick))
+-- a tick that is uneventful stands for none
+pub uneventful-stands : (r : Record) (k : Kind) (d p : ℕ) (e : Event) → Uneventful r k d → StandsFor r d p k e → ⊥
+uneventful-stands r k d p e i card = omega (arith, ap numberOfKind (i .tick))
+uneventful-stands r k d p e i grant = omega (arith, ap numberOfKind (i .tick))
+uneventful-stands r k d p e i denial = omega (arith, ap numberOfKind (i .tick))
+uneventful-stands r k d p e i green-order = omega (arith, ap numberOfKind (i .tick))
+uneventful-stands r k d p e i walk = omega (arith, ap numberOfKind (i .tick))
+uneventful-stands r k d p e i (expiry at last) = omega (arith, i .green-on at)
+uneventful-stands r k d p e i passage = omega (arith, ap numberOfKind (i .tick))
+uneventful-stands r k d p e i lapse = omega (arith, ap numberOfKind (i .tick))
+uneventful-stands r k d p e i red-order = omega (arith, ap numberOfKind (i .tick))
+uneventful-stands r k d p e i (dimming at last) = omega (arith, i .red-on at)
+uneventful-stands r k d p e i darkness = omega (arith, ap numberOfKind (i .tick))
+uneventful-stands r k d p e i acknowledgement = omega (arith, ap numberOfKind (i .tick))
 
 -- ---- no door is stuck
 
@@ -141,8 +141,8 @@ module _ (r : Record) (sh : Shaped r) (s : Sound r) (d : ℕ) (h : d < r .doors)
       refused x (inl at) = phase-moves (REFUSE d) refl x Red denied at refl (λ e. omega arith)
       refused x (inr at) = tick-moves at
 
-      decides : getD (r .phase) d 0 ≡ read → Enabled r Decide d 0 ⊎ Idle r Decide d → Live r d
-      decides at (inl e) = decision-moves at e
+      decides : getD (r .phase) d 0 ≡ read → MayAct r Decide d 0 ⊎ Uneventful r Decide d → Live r d
+      decides at (inl may) = decision-moves at (may .enabled)
       decides at (inr i) = absurd (omega (arith, ap numberOfKind (i .tick)))
 
       go : (dom (CardAt r) ∪ stateOf3 r .set m3.grn ∪ stateOf3 r .set m3.red ∪ DoorIn r mAckn) d → Live r d

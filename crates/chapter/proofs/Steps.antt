@@ -3,6 +3,7 @@ use Prim.Native.Nat.{ℕ, _≤_, _<_, _-_}
 use mathlib.Core.Path.{_≡_, refl, sym, subst, ap, _∙_}
 use mathlib.Core.Bool.{Bool, true, false, cond, false≢true}
 use mathlib.Core.Logic.{_⊎_, inl, inr, ⊎-elim, _↔_}
+use native.Mathlib.Omega.{arith}
 use borrow.Author.Tests.{eqb-true, eqb-false, eq-eqb, ne-eqb, ltb-true, ltb-false, lt-ltb, le-ltb}
 use lib.ListN.{getD}
 use lib.Dec.{eqb, ltb}
@@ -19,20 +20,22 @@ use Rattle.phases.specs.Kinds.{allows, namesPerson, numberOfKind}
 use Rattle.granting.specs.Grants.{GrantAt}
 use Rattle.record.specs.Sound.{Sound}
 use Rattle.door_does.specs.Does.{effect}
+use Rattle.record.specs.declared.steps.Step.{Step}
 use Rattle.record.specs.Steps.{reasonFor, Admitted, doing, stepOf}
 use Rattle.tables.proofs.Cases.{same-or-not, one-of}
 use Rattle.record.proofs.Tells.{sound-tells}
 use Rattle.record.proofs.Right.{admitted, admits}
-use Rattle.record.proofs.Laws.{Allowed, allowed-does, act-done, done-did, plan-stays, others-stay, places-stay, passed-moves, becomes, door-after, tick-done}
-use Rattle.machines.specs.Sets.{Set}
+use Rattle.record.proofs.Laws.{Allowed, allowed-does, not-allowed, barred-stays, act-done, done-did, plan-stays, others-stay, places-stay, passed-moves, becomes, door-after, tick-done}
+use Rattle.machines.specs.Sets.{Set, only, _∪_}
 use Rattle.machines.specs.Machines.{State, Same}
 use Rattle.machines.specs.M2.{Acceptable}
 use Rattle.machines.specs.M3.{Maps, dap, mCard}
 use Rattle.machines.specs.M4 as m4
-use Rattle.machines.specs.M4.{Sets, BLR, mAckn, mAccept, GRN, mPass, mOff-grn, mRefuse, RED, mOff-red}
+use Rattle.machines.specs.M4.{Sets, setNo, BLR, mAckn, mAccept, GRN, mPass, mOff-grn, mRefuse, RED, mOff-red}
 use Rattle.machines.specs.M4.{Event, CARD, accept, refuse, pass, ACCEPT, PASS, OFF-GRN, off-grn, REFUSE, OFF-RED, off-red, ACKN}
-use Rattle.chapter.specs.Reading.{constantsOf, isIn, DoorIn, CardAt, stateOf, StandsFor, Enabled, Idle}
+use Rattle.chapter.specs.Reading.{constantsOf, isIn, DoorIn, CardAt, stateOf, StandsFor, Enabled, LitAlready, green-lit, red-lit, MayAct, Uneventful}
 use Rattle.chapter.specs.Reading.{card, grant, denial, green-order, walk, expiry, passage, lapse, red-order, dimming, darkness, acknowledgement}
+use Rattle.chapter.specs.Panel.{OrderedAgain}
 use Rattle.chapter.proofs.Invariants.{in-BLR}
 use Rattle.chapter.proofs.Turn.{At, comes, goes, each, sets-same, MapAt, takes, frees, holds, drops, maps-same, Turned, unturned, read-sets, read-dap, read-card}
 
@@ -153,39 +156,31 @@ module _ (r : Record) (sh : Shaped r) (s : Sound r) (d p : ℕ) where
             (drops (was-card r d read (g .exists) at)) refl no-way,
       )
 
-  by-green : DoorIn r mAccept d → Follows Green (ACCEPT d)
+  by-green : DoorIn r mAccept d → (DoorIn r GRN d → ⊥) → Follows Green (ACCEPT d)
   unfolding Follows effect isIn allows grants andAlso orElse
-  by-green g =
+  by-green g dark =
       let h = g .exists in
-      let done = event-done Green h no-way (g .phase) in
-      let c = door green (getD (r .holder) d 0) greenSpan in (
+      let done = event-done Green h no-way (eq-eqb _ _ at) in (
         done,
-        ⊎-elim
-            (λ at.
-            sets-only Green granted c _ done refl h refl (comes GRN (was-sets r d granted h at))
-            (each _ refl refl refl refl refl refl refl refl refl) at refl (λ _. refl) refl refl)
-            (λ at.
-            sets-only Green green c _ done refl h refl (comes GRN (was-sets r d green h at))
-            (each _ refl refl refl refl refl refl refl refl refl) at refl (λ _. refl) refl refl)
-            (one-of (getD (r .phase) d 0) granted green (g .phase)),
+        sets-only Green granted (door green (getD (r .holder) d 0) greenSpan) _ done refl h refl
+            (comes GRN (was-sets r d granted h at)) (each _ refl refl refl refl refl refl refl refl refl) at refl (λ _. refl) refl refl,
       )
+    where
+      at : getD (r .phase) d 0 ≡ granted
+      at = ⊎-elim (λ is. is) (λ is. absurd (dark (record { exists = g .exists; phase = eq-eqb _ _ is }))) (one-of (getD (r .phase) d 0) granted green (g .phase))
 
-  by-red : DoorIn r mRefuse d → Follows Red (REFUSE d)
+  by-red : DoorIn r mRefuse d → (DoorIn r RED d → ⊥) → Follows Red (REFUSE d)
   unfolding Follows effect isIn allows grants andAlso orElse
-  by-red g =
+  by-red g dark =
       let h = g .exists in
-      let done = event-done Red h no-way (g .phase) in
-      let c = door red (getD (r .holder) d 0) redSpan in (
+      let done = event-done Red h no-way (eq-eqb _ _ at) in (
         done,
-        ⊎-elim
-            (λ at.
-            sets-only Red denied c _ done refl h refl (comes RED (was-sets r d denied h at))
-            (each _ refl refl refl refl refl refl refl refl refl) at refl (λ _. refl) refl refl)
-            (λ at.
-            sets-only Red red c _ done refl h refl (comes RED (was-sets r d red h at))
-            (each _ refl refl refl refl refl refl refl refl refl) at refl (λ _. refl) refl refl)
-            (one-of (getD (r .phase) d 0) denied red (g .phase)),
+        sets-only Red denied (door red (getD (r .holder) d 0) redSpan) _ done refl h refl
+            (comes RED (was-sets r d denied h at)) (each _ refl refl refl refl refl refl refl refl refl) at refl (λ _. refl) refl refl,
       )
+    where
+      at : getD (r .phase) d 0 ≡ denied
+      at = ⊎-elim (λ is. is) (λ is. absurd (dark (record { exists = g .exists; phase = eq-eqb _ _ is }))) (one-of (getD (r .phase) d 0) denied red (g .phase))
 
   by-walk : DoorIn r GRN d → Follows Walk (PASS d)
   unfolding Follows effect isIn allows grants andAlso orElse
@@ -293,27 +288,62 @@ module _ (r : Record) (sh : Shaped r) (s : Sound r) (d p : ℕ) where
       reads-as r _ d (door ph (getD (r .holder) d 0) (to .0)) (turned Tick done _ (to .1)) h _ (still Tick refl)
       (was-sets r d ph h refl) (λ X. refl) (was-dap r d ph h refl) refl (λ _. refl) (was-card r d ph h refl) refl (λ _. refl)
 
-  -- where the event that a step stands for is enabled, the step is done, and the next record reads as the event's after-state
-  pub follows : (k : Kind) (e : Event) → StandsFor r d p k e → m4.Guard (constantsOf r) (stateOf r) e
+  -- where a step may act it is done, and the next record reads as its event's after-state
+  pub follows : (k : Kind) (e : Event) → StandsFor r d p k e → m4.Guard (constantsOf r) (stateOf r) e → (LitAlready (stateOf r) d k → ⊥)
       → (stepOf r k d p .answer ≡ Done) × Same (stateOf (stepOf r k d p .next)) (m4.action (constantsOf r) (stateOf r) e)
   unfolding Follows
-  follows k e card g = by-card (g .0) (g .1) (g .2)
-  follows k e grant g = by-grant (g .0) (g .1)
-  follows k e denial g = by-denial (g .0) (g .1)
-  follows k e green-order g = by-green g
-  follows k e walk g = by-walk g
-  follows k e (expiry at last) g = by-expiry at last g
-  follows k e passage g = by-passage (g .0)
-  follows k e lapse g = by-lapse g
-  follows k e red-order g = by-red g
-  follows k e (dimming at last) g = by-dimming at last g
-  follows k e darkness g = by-dark g
-  follows k e acknowledgement g = by-ack g
+  follows k e card g dark = by-card (g .0) (g .1) (g .2)
+  follows k e grant g dark = by-grant (g .0) (g .1)
+  follows k e denial g dark = by-denial (g .0) (g .1)
+  follows k e green-order g dark = by-green g (λ on. dark (green-lit on))
+  follows k e walk g dark = by-walk g
+  follows k e (expiry at last) g dark = by-expiry at last g
+  follows k e passage g dark = by-passage (g .0)
+  follows k e lapse g dark = by-lapse g
+  follows k e red-order g dark = by-red g (λ on. dark (red-lit on))
+  follows k e (dimming at last) g dark = by-dimming at last g
+  follows k e darkness g dark = by-dark g
+  follows k e acknowledgement g dark = by-ack g
 
-  -- a step that is done stands for an event that is enabled, or is a tick that stands for nothing
-  pub enabled : (k : Kind) → stepOf r k d p .answer ≡ Done → Enabled r k d p ⊎ Idle r k d
+  -- an order for a light that is burning already is refused, though its event is enabled; the event would alter nothing
+  module _ (k : Kind) (h : d < r .doors) (nobody : namesPerson k ≡ false) (barred : allows k (getD (r .phase) d 0) ≡ false) where
+    again : (e : Enabled r k d p) → Same (m4.action (constantsOf r) (stateOf r) (e .event)) (stateOf r) → OrderedAgain r k d p
+    again e same =
+        record {
+          enabled = e;
+          no-change = same;
+          refused = ap (λ (x : Step). x .answer) (not-allowed r k d p sh s h nobody barred);
+          skips = barred-stays r k d p barred;
+        }
+
+  lit-same : (X : Sets) (a : ℕ) → d < r .doors → getD (r .phase) d 0 ≡ a → ((Y : Sets) → cond (eqb (setNo X) (setNo Y)) true (isIn Y a) ≡ isIn Y a)
+      → Same (record { sit = stateOf r .sit; set = λ Y. cond (eqb (setNo X) (setNo Y)) (DoorIn r Y ∪ only d) (DoorIn r Y); map = stateOf r .map }) (stateOf r)
+  lit-same X a h at as-it-was =
+      record { sit = λ _. refl; set = sets-same (comes X (was-sets r d a h at)) (was-sets r d a h at) as-it-was; map = λ f x y. (λ z. z, λ z. z) }
+
+  pub ordered-again : (k : Kind) → LitAlready (stateOf r) d k → OrderedAgain r k d p
+  unfolding allows isIn orElse
+  ordered-again k (green-lit g) =
+      let at = eqb-true (getD (r .phase) d 0) green (g .phase) in
+      again Green (g .exists) refl (rw at) (record { event = ACCEPT d; stands = green-order; guard = record { exists = g .exists; phase = rw at } })
+      (lit-same GRN green (g .exists) at (each _ refl refl refl refl refl refl refl refl refl))
+  ordered-again k (red-lit g) =
+      let at = eqb-true (getD (r .phase) d 0) red (g .phase) in
+      again Red (g .exists) refl (rw at) (record { event = REFUSE d; stands = red-order; guard = record { exists = g .exists; phase = rw at } })
+      (lit-same RED red (g .exists) at (each _ refl refl refl refl refl refl refl refl refl))
+
+  -- no step that the door's phase allows orders a light that is burning already
+  allowed-unlit : (k : Kind) → allows k (getD (r .phase) d 0) ≡ true → LitAlready (stateOf r) d k → ⊥
+  unfolding allows isIn
+  allowed-unlit k ok (green-lit g) = let a = eqb-true (getD (r .phase) d 0) granted ok in let b = eqb-true (getD (r .phase) d 0) green (g .phase) in omega arith
+  allowed-unlit k ok (red-lit g) = let a = eqb-true (getD (r .phase) d 0) denied ok in let b = eqb-true (getD (r .phase) d 0) red (g .phase) in omega arith
+
+  -- a step that is done may act, or is a tick that is no event
+  pub enabled : (k : Kind) → stepOf r k d p .answer ≡ Done → MayAct r k d p ⊎ Uneventful r k d
   unfolding allows isIn keeps grants andAlso orElse
-  enabled k done = go k (done-did r k d p done .0)
+  enabled k done =
+      let w = done-did r k d p done .0 in
+      ⊎-elim (λ e. inl (record { enabled = e; unlit = allowed-unlit k (w .allowed) })) inr (go k w)
     where
       decide : d < r .doors → getD (r .phase) d 0 ≡ read → (b : Bool) → eqb (reasonFor r d (getD (r .holder) d 0)) 0 ≡ b → Enabled r Decide d p
       decide h at true e =
@@ -333,7 +363,7 @@ module _ (r : Record) (sh : Shaped r) (s : Sound r) (d p : ℕ) where
           }
 
       tick : d < r .doors → (a : Bool) → eqb (getD (r .phase) d 0) green ≡ a → (b : Bool) → eqb (getD (r .phase) d 0) red ≡ b → (c : Bool) → ltb 1 (getD (r .count) d 0) ≡ c
-          → Enabled r Tick d p ⊎ Idle r Tick d
+          → Enabled r Tick d p ⊎ Uneventful r Tick d
       tick h a e b f true g = inr (record { tick = refl; exists = h; green-on = λ _. ltb-true _ _ g; red-on = λ _. ltb-true _ _ g })
       tick h true e b f false g =
           inl (record { event = OFF-GRN d; stands = expiry (eqb-true _ _ e) (ltb-false _ _ g); guard = record { exists = h; phase = e } })
@@ -342,12 +372,12 @@ module _ (r : Record) (sh : Shaped r) (s : Sound r) (d p : ℕ) where
       tick h false e false f false g =
           inr (record { tick = refl; exists = h; green-on = λ is. absurd (eqb-false _ _ e is); red-on = λ is. absurd (eqb-false _ _ f is) })
 
-      go : (k : Kind) → Allowed r k d p → Enabled r k d p ⊎ Idle r k d
+      go : (k : Kind) → Allowed r k d p → Enabled r k d p ⊎ Uneventful r k d
       go Card w =
           inl (record { event = CARD p d; stands = card; guard = (w .a-person refl, w .a-door, λ b. in-BLR r d b (eqb-true (getD (r .phase) d 0) free (w .allowed))) })
       go Decide w = inl (decide (w .a-door) (eqb-true _ _ (w .allowed)) (eqb (reasonFor r d (getD (r .holder) d 0)) 0) refl)
-      go Green w = inl (record { event = ACCEPT d; stands = green-order; guard = record { exists = w .a-door; phase = w .allowed } })
-      go Red w = inl (record { event = REFUSE d; stands = red-order; guard = record { exists = w .a-door; phase = w .allowed } })
+      go Green w = inl (record { event = ACCEPT d; stands = green-order; guard = record { exists = w .a-door; phase = rw (eqb-true (getD (r .phase) d 0) granted (w .allowed)) } })
+      go Red w = inl (record { event = REFUSE d; stands = red-order; guard = record { exists = w .a-door; phase = rw (eqb-true (getD (r .phase) d 0) denied (w .allowed)) } })
       go Walk w = inl (record { event = PASS d; stands = walk; guard = record { exists = w .a-door; phase = w .allowed } })
       go Tick w = tick (w .a-door) (eqb (getD (r .phase) d 0) green) refl (eqb (getD (r .phase) d 0) red) refl (ltb 1 (getD (r .count) d 0)) refl
       go Passed w =
@@ -365,6 +395,6 @@ module _ (r : Record) (sh : Shaped r) (s : Sound r) (d p : ℕ) where
       go Ack w = inl (record { event = ACKN d; stands = acknowledgement; guard = record { exists = w .a-door; phase = w .allowed } })
       go Unknown w = no-way (w .allowed)
 
--- an idle tick is done
-pub idle-done : (r : Record) → Shaped r → Sound r → (d p : ℕ) (k : Kind) → Idle r k d → stepOf r k d p .answer ≡ Done
-idle-done r sh s d p k i = subst (λ (x : Kind). stepOf r x d p .answer ≡ Done) (sym (i .tick)) (tick-done r d p sh s (i .exists))
+-- an uneventful tick is done
+pub uneventful-done : (r : Record) → Shaped r → Sound r → (d p : ℕ) (k : Kind) → Uneventful r k d → stepOf r k d p .answer ≡ Done
+uneventful-done r sh s d p k i = subst (λ (x : Kind). stepOf r x d p .answer ≡ Done) (sym (i .tick)) (tick-done r d p sh s (i .exists))

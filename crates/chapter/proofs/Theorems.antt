@@ -1,8 +1,9 @@
 -- The theorems about the panel and the chapter, by name. A record is shaped (its lists are as long as its arrays) and sound.
 -- `constantsOf r` are the chapter's constants in its tables, `stateOf r` is its reading as a state of the fourth refinement.
 --     fresh-reads                                     the fresh record reads as the initial state
---     step-acts, step-follows, tick-idles,            each step acts exactly when its event may, and does what the event does
---     refusal-alters-nothing, stands-for-one, idle-stands-for-none
+--     step-acts, step-follows, tick-skips,            each step acts exactly when it may, and does what its event does
+--     refusal-alters-nothing, stands-for-one, uneventful-stands-for-none
+--     again-refused                                   the one place where the panel is stricter than the chapter
 --     denial-first                                    the reason told is the first conjunct that fails, and the door is dap(p)
 --     constants-obey, invariants-hold                 every axiom and every invariant holds of every sound record
 --     the-chapter                                     each machine keeps its invariants and refines the one before, and pass happens
@@ -43,12 +44,12 @@ use Rattle.machines.specs.M0 as m0
 use Rattle.machines.specs.M1 as m1
 use Rattle.machines.specs.M3.{dap}
 use Rattle.machines.specs.M4 as m4
-use Rattle.chapter.specs.Reading.{constantsOf, stateOf, stateOf3, stateOf2, stateOf1, StandsFor, Enabled, Idle, FirstFailing}
-use Rattle.chapter.specs.Panel.{StartOfEach, OneMove, RunOfEach, EQP-3, Live}
+use Rattle.chapter.specs.Reading.{constantsOf, stateOf, stateOf3, stateOf2, stateOf1, StandsFor, LitAlready, MayAct, Uneventful, FirstFailing}
+use Rattle.chapter.specs.Panel.{StartOfEach, OrderedAgain, OneMove, RunOfEach, EQP-3, Live}
 use Rattle.machines.proofs.Safety.{saf-1, saf-2}
 use Rattle.chapter.proofs.Site.{axioms, saf-3, way-leads}
-use Rattle.chapter.proofs.Steps.{follows, enabled, idle-done}
-use Rattle.chapter.proofs.Stands.{stands-once, idle-stands, live, fresh-starts, first-failing}
+use Rattle.chapter.proofs.Steps.{follows, ordered-again, enabled, uneventful-done}
+use Rattle.chapter.proofs.Stands.{stands-once, uneventful-stands, live, fresh-starts, first-failing}
 use Rattle.machines.proofs.Refine as refine
 use Rattle.chapter.proofs.Panel as panel
 
@@ -59,19 +60,25 @@ use Rattle.chapter.proofs.Panel as panel
 pub fresh-reads : (site : Plan) (right : List Bool) → m4.Start (constantsOf (freshRecord site right)) (stateOf (freshRecord site right))
 fresh-reads = fresh-starts
 
--- A step is done exactly when the event that it stands for is enabled, or it is a tick that stands for nothing.
-pub step-acts : (r : Record) → Shaped r → Sound r → (k : Kind) (d p : ℕ) → (stepOf r k d p .answer ≡ Done) ↔ (Enabled r k d p ⊎ Idle r k d)
+-- A step is done exactly when it may act (its event is enabled, and the light that it orders isn't burning already), or it is a tick that
+-- stands for nothing.
+pub step-acts : (r : Record) → Shaped r → Sound r → (k : Kind) (d p : ℕ) → (stepOf r k d p .answer ≡ Done) ↔ (MayAct r k d p ⊎ Uneventful r k d)
 step-acts r sh s k d p =
-    (enabled r sh s d p k, ⊎-elim (λ e. follows r sh s d p k (e .event) (e .stands) (e .guard) .0) (idle-done r sh s d p k))
+    (enabled r sh s d p k, ⊎-elim (λ may. let e = may .enabled in follows r sh s d p k (e .event) (e .stands) (e .guard) (may .unlit) .0) (uneventful-done r sh s d p k))
 
--- And where the event is enabled, the next record reads as the state after its action.
-pub step-follows : (r : Record) → Shaped r → Sound r → (k : Kind) (d p : ℕ) (e : m4.Event) → StandsFor r d p k e → m4.Guard (constantsOf r) (stateOf r) e
-    → Same (stateOf (stepOf r k d p .next)) (m4.action (constantsOf r) (stateOf r) e)
-step-follows r sh s k d p e stands guard = follows r sh s d p k e stands guard .1
+-- And where it is done and its event is enabled, the next record reads as the state after the event's action.
+pub step-follows : (r : Record) → Shaped r → Sound r → (k : Kind) (d p : ℕ) (e : m4.Event) → stepOf r k d p .answer ≡ Done → StandsFor r d p k e
+    → m4.Guard (constantsOf r) (stateOf r) e → Same (stateOf (stepOf r k d p .next)) (m4.action (constantsOf r) (stateOf r) e)
+step-follows r sh s k d p e done stands guard =
+    ⊎-elim (λ may. follows r sh s d p k e stands guard (may .unlit) .1) (λ i. absurd (uneventful-stands r k d p e i stands)) (enabled r sh s d p k done)
+
+-- An order for a light that is burning already is refused and alters nothing, though its event is enabled, which would alter nothing either.
+pub again-refused : (r : Record) → Shaped r → Sound r → (k : Kind) (d p : ℕ) → LitAlready (stateOf r) d k → OrderedAgain r k d p
+again-refused r sh s k d p = ordered-again r sh s d p k
 
 -- A tick that stands for nothing alters nothing of the reading.
-pub tick-idles : (r : Record) → Shaped r → Sound r → (k : Kind) (d p : ℕ) → Idle r k d → Same (stateOf (stepOf r k d p .next)) (stateOf r)
-tick-idles r sh s k d p i = panel.idles r k d p sh s i
+pub tick-skips : (r : Record) → Shaped r → Sound r → (k : Kind) (d p : ℕ) → Uneventful r k d → Same (stateOf (stepOf r k d p .next)) (stateOf r)
+tick-skips r sh s k d p i = panel.tick-same r k d p sh s i
 
 -- A step that isn't done alters nothing at all.
 pub refusal-alters-nothing : (r : Record) (k : Kind) (d p : ℕ) → (stepOf r k d p .answer ≡ Done → ⊥) → stepOf r k d p .next ≡ r
@@ -82,9 +89,9 @@ pub stands-for-one : (r : Record) (k : Kind) (d p : ℕ) (e f : m4.Event) → St
     → StandsFor r d p k f → m4.Guard (constantsOf r) (stateOf r) f → e ≡ f
 stands-for-one = stands-once
 
--- .. and an idle tick for none.
-pub idle-stands-for-none : (r : Record) (k : Kind) (d p : ℕ) (e : m4.Event) → Idle r k d → StandsFor r d p k e → ⊥
-idle-stands-for-none = idle-stands
+-- .. and a tick that is no event for none.
+pub uneventful-stands-for-none : (r : Record) (k : Kind) (d p : ℕ) (e : m4.Event) → Uneventful r k d → StandsFor r d p k e → ⊥
+uneventful-stands-for-none = uneventful-stands
 
 -- What `decide` tells is the first of accept's three guards that fails for the card's person, and 0 where none does; with reason 3, dap(p).
 pub denial-first : (r : Record) → Sound r → (d p : ℕ) → stepOf r Decide d p .answer ≡ Done

@@ -5,13 +5,13 @@ use mathlib.Core.Path.{_≡_}
 use mathlib.Core.List.{List, [], _∷_}
 use Rattle.record.specs.declared.record.Record.{Record}
 use Rattle.phases.specs.declared.table.Kind.{Kind}
-use Rattle.phases.specs.declared.answer.Answer.the-variants.{Done}
+use Rattle.phases.specs.declared.answer.Answer.the-variants.{Done, NotAllowed}
 use Rattle.phases.specs.Kinds.{StepRow}
 use Rattle.record.specs.Steps.{stepOf}
 use Rattle.record.specs.Run.{rowOf}
 use Rattle.machines.specs.Sets.{Empty, _∩_}
 use Rattle.machines.specs.Context.{Constants}
-use Rattle.machines.specs.Machines.{State, Move, event, skip, seen, MachineStep}
+use Rattle.machines.specs.Machines.{State, Same, Move, event, skip, seen, MachineStep}
 use Rattle.machines.specs.M0 as m0
 use Rattle.machines.specs.M1 as m1
 use Rattle.machines.specs.M2 as m2
@@ -19,7 +19,7 @@ use Rattle.machines.specs.M3 as m3
 use Rattle.machines.specs.M4 as m4
 use Rattle.machines.specs.M4.{GRN, RED}
 use Rattle.machines.specs.M4.{Event, CARD, accept, refuse, pass, ACCEPT, PASS, OFF-GRN, off-grn, REFUSE, OFF-RED, off-red, ACKN}
-use Rattle.chapter.specs.Reading.{constantsOf, stateOf, stateOf3, stateOf2, stateOf1, StandsFor, Idle}
+use Rattle.chapter.specs.Reading.{constantsOf, stateOf, stateOf3, stateOf2, stateOf1, StandsFor, Enabled, Uneventful}
 
 -- ---- the start
 
@@ -32,13 +32,23 @@ pub record StartOfEach (r : Record) : Type 0 where
   pub first : m1.machine (constantsOf r) .Start (stateOf1 r)
   pub initial : m0.Start (constantsOf r) (stateOf1 r)
 
+-- ---- an order for a light that is burning already
+
+-- Where the panel is stricter than the chapter: the event is enabled, but would alter no variable; the panel answers 12 and alters
+-- nothing, so that to each machine the step is skip.
+pub record OrderedAgain (r : Record) (k : Kind) (d p : ℕ) : Type 0 where
+  pub enabled : Enabled r k d p
+  pub no-change : Same (m4.action (constantsOf r) (stateOf r) (enabled .event)) (stateOf r)
+  pub refused : stepOf r k d p .answer ≡ NotAllowed
+  pub skips : stepOf r k d p .next ≡ r
+
 -- ---- a row of a list of steps
 
 -- What the step of a row is to the fourth refinement: where it is done, the event that it stands for; a tick that stands for none
 -- and a step that is refused are nothing.
 pub data MoveOf (r : Record) (row : StepRow) : Move Event → Type 0 where
   done : (e : Event) → rowOf r row .answer ≡ Done → StandsFor r (row .at) (row .person) (row .kind) e → MoveOf r row (event e)
-  idle : Idle r (row .kind) (row .at) → MoveOf r row skip
+  uneventful : Uneventful r (row .kind) (row .at) → MoveOf r row skip
   refused : (rowOf r row .answer ≡ Done → ⊥) → MoveOf r row skip
 
 -- and to the machines before: the event that is refined, and nothing where the event is a new one

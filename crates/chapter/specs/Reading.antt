@@ -98,9 +98,8 @@ stateOf1 r = m2.see (stateOf2 r)
 
 -- ---- which event a step stands for
 
--- The step k at door d, with p the person of a card. A `decide` stands for accept or refuse, of which one is enabled. A `green`
--- or `red` that comes while the light burns is ACCEPT or REFUSE again: their guards allow it, and it alters no variable. A
--- `tick` stands for an event where the countdown reaches 0, and else for nothing.
+-- The step k at door d, with p the person of a card. A `decide` stands for accept or refuse, of which one is enabled. A `tick` stands
+-- for an event where the countdown reaches 0, and else for nothing.
 pub data StandsFor (r : Record) (d p : ℕ) : Kind → Event → Type 0 where
   card : StandsFor r d p Card (CARD p d)
   grant : StandsFor r d p Decide (accept (getD (r .holder) d 0) d)
@@ -121,8 +120,24 @@ pub record Enabled (r : Record) (k : Kind) (d p : ℕ) : Type 0 where
   pub stands : StandsFor r d p k event
   pub guard : m4.Guard (constantsOf r) (stateOf r) event
 
--- a tick that stands for nothing: of a door without a light, or one whose countdown doesn't reach 0
-pub record Idle (r : Record) (k : Kind) (d : ℕ) : Type 0 where
+-- ---- where the panel is stricter than the chapter
+
+-- The light that the step orders at door d is burning already. The guards of ACCEPT and REFUSE (d ∈ mAccept, d ∈ mRefuse) hold there
+-- too, but "`green` in phase 3 and `red` in phase 7 aren't allowed any more" (02, C-13). This is the one place where the panel asks more
+-- than a guard of the chapter.
+pub data LitAlready (s : State m4.names) (d : ℕ) : Kind → Type 0 where
+  green-lit : s .set GRN d → LitAlready s d Green
+  red-lit : s .set RED d → LitAlready s d Red
+
+-- so a step may act where its event is enabled, unless it orders a light that is burning already
+pub record MayAct (r : Record) (k : Kind) (d p : ℕ) : Type 0 where
+  pub enabled : Enabled r k d p
+  pub unlit : LitAlready (stateOf r) d k → ⊥
+
+-- ---- a tick that is no event
+
+-- it is of a door without a light, or its light's countdown doesn't reach 0
+pub record Uneventful (r : Record) (k : Kind) (d : ℕ) : Type 0 where
   pub tick : k ≡ Tick
   pub exists : d < r .doors
   pub green-on : getD (r .phase) d 0 ≡ green → 1 < getD (r .count) d 0

@@ -15,6 +15,7 @@ use Rattle.steps_sheet.specs.Says.{Steps, SheetSays}
 use Rattle.steps_sheet.proofs.Theorems.{sheet-exactly}
 use Rattle.run_text.specs.Printed.{runText, panelText, placesText, recordText, whereText}
 use Rattle.run_events.specs.Lines.{linesOf, heardOf}
+use Rattle.run_events.proofs.Burning.{lights-told}
 use Rattle.card_by_card.specs.Serving.{recordedIn, services}
 use Rattle.card_by_card.specs.Served.{servedIn}
 use Rattle.card_by_card.proofs.DemandThree.{demand-3}
@@ -42,12 +43,14 @@ module _ (site : List ℕ) (e : siteOf site .verdict ≡ Accepted) (steps : List
 
   pub printed-as-served : PrintedAsServed site steps said
   printed-as-served =
-      let three = demand-3 fresh (accepted-fresh site e) (said .rows) in
+      let new = accepted-fresh site e in
+      let three = demand-3 fresh new (said .rows) in
       let people : servedIn fresh (said .rows) .people ≡ lastOf fresh (said .rows) .people =
       ap (λ (p : Plan). p .people) (run-plan fresh (services (recordedIn fresh (said .rows))) ∙ sym (run-plan fresh (said .rows))) in
       record {
         panel = rw (replies-heard fresh (said .rows)) panel-prints;
         decided = three .decided;
         held-open = three .held-open;
+        lights = lights-told fresh (new .shaped) (new .sound) (said .rows);
         places = where-prints ∙ sym (λ i. placesText (take (people i) (three .places i)));
       }

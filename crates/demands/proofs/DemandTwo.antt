@@ -9,7 +9,7 @@ use native.Mathlib.Omega.{arith}
 use borrow.Author.Tests.{eqb-true, eqb-false, ltb-true, ne-eqb, lt-ltb, le-leb}
 use lib.ListN.{length, getD, drop}
 use lib.Dec.{eqb, ltb}
-use Rattle.tables.specs.Tables.{Plan, orElse, andAlso}
+use Rattle.tables.specs.Tables.{Plan, andAlso}
 use Rattle.tables.proofs.Laws.{clash}
 use Rattle.tables.specs.Rules.{SafeWay}
 use Rattle.tables.specs.Way.{Way, wayOf, ifRoom, wayToldIn, wayWrittenIn}
@@ -30,28 +30,27 @@ use Rattle.granting.specs.Grants.{GrantAt}
 use Rattle.record.specs.Sound.{Sound}
 use Rattle.door_does.specs.declared.Does.{Does}
 use Rattle.door_does.specs.Does.{burns, effect}
-use Rattle.deeds.specs.Deeds.{existAmong}
-use Rattle.record.specs.Steps.{reasonFor, Admitted, HeldDoor, the-grant, no-door, act, doing, stepOf, exist}
+use Rattle.record.specs.Steps.{reasonFor, Admitted, HeldDoor, the-grant, no-door, act, doing, stepOf}
 use Rattle.record.specs.Run.{lastOf}
-use Rattle.record.specs.Lights.{NoGreenNoWalk, NoRed}
+use Rattle.record.specs.Lights.{Each, NoWalk}
 use Rattle.record.specs.Questions.{wayAnswerOf, wayWritten}
 use Rattle.tables.proofs.Cases.{either}
 use Rattle.record.proofs.Ask.{place-is-location, way-out-safe}
 use Rattle.record.proofs.Right.{admitted}
 use Rattle.record.proofs.Tells.{sound-tells}
-use Rattle.record.proofs.Laws.{done-did, barred-12, act-done, becomes, door-after, sound-stays, shaped-stays, plan-stays, rights-stay, run-sound, run-shaped, run-plan, run-rights, denied-first, door-told, granted-exactly, green-burns, green-expires, red-burns, red-dims}
+use Rattle.record.proofs.Laws.{done-did, not-allowed, act-done, becomes, door-after, sound-stays, shaped-stays, plan-stays, rights-stay, run-sound, run-shaped, run-plan, run-rights, denied-first, door-told, granted-exactly, green-burns, green-expires, red-burns, red-dims}
 use Rattle.verdict.specs.declared.Verdict.the-variants.{Accepted}
 use Rattle.grammar.specs.Sizes.{limit}
 use Rattle.site_lines.specs.Draft.{planIn}
 use Rattle.site_sheet.specs.Site.{siteOf}
 use Rattle.site_sheet.proofs.Theorems.{accepted-holds}
-use Rattle.chapter.proofs.Theorems.{fresh-reads, starts-each, step-acts, step-follows, tick-idles, refusal-alters-nothing, stands-for-one, idle-stands-for-none, denial-first}
+use Rattle.chapter.proofs.Theorems.{fresh-reads, starts-each, step-acts, step-follows, tick-skips, again-refused, refusal-alters-nothing, stands-for-one, uneventful-stands-for-none, denial-first}
 use Rattle.machines.specs.M4 as m4
 use Rattle.chapter.specs.Reading.{constantsOf, stateOf}
 use Rattle.chapter.specs.Panel.{StartOfEach}
-use Rattle.demands.specs.DemandTwo.{WayAsked, WayOutside, StepIsEvent, Light, Decided, HeldIsTheGrant, SameTables, NothingToAlter, no-light, green-whole, red-whole, CountsDown}
+use Rattle.demands.specs.DemandTwo.{WayAsked, WayOutside, StepIsEvent, Light, Decided, HeldIsTheGrant, SameTables, IdleTick, CountsDown}
 use Rattle.record_answers.proofs.Record.{of-record}
-use Rattle.card_by_card.proofs.Serial.{step-done, put-as-is}
+use Rattle.card_by_card.proofs.Serial.{step-done}
 
 -- ---- the way outside
 
@@ -129,8 +128,9 @@ is-event r sh s k d p =
       acts = step-acts r sh s k d p;
       does = step-follows r sh s k d p;
       one = stands-for-one r k d p;
-      ticks-on = tick-idles r sh s k d p;
-      no-event = idle-stands-for-none r k d p;
+      ticks-on = tick-skips r sh s k d p;
+      no-event = uneventful-stands-for-none r k d p;
+      again = again-refused r sh s k d p;
       refused = refusal-alters-nothing r k d p;
       sound-again = (shaped-stays r k d p sh, sound-stays r k d p sh s);
     }
@@ -150,24 +150,22 @@ starts s e =
 module _ (r : Record) (sh : Shaped r) (s : Sound r) (d : ℕ) (h : d < r .doors) where
   lights : (on off : Kind) (burning : ℕ) → namesPerson on ≡ false → namesPerson off ≡ false → allows on (getD (r .phase) d 0) ≡ true
       → allows off (getD (r .phase) d 0) ≡ false → ((p : ℕ) → act r d (doing r on d p) .phase ≡ burning) → Light r d on off burning
-  unfolding existAmong orElse andAlso
   lights on off burning nobody no-one ok no-way lit =
       let e : (p : ℕ) → stepOf r on d p ≡ act r d (doing r on d p) = λ p. step-done r on d p sh s h (λ named. clash named nobody) ok in
-      let there : (p : ℕ) → exist r off d p ≡ true = λ p. rw (lt-ltb d (r .doors) h, no-one) in
       record {
         taken = λ p. ap (λ (x : Step). x .answer) (e p) ∙ act-done r d (doing r on d p);
         burns = λ p. ap (λ (x : Step). x .phase) (e p) ∙ lit p;
-        other = λ p. ap (λ (x : Step). x .answer) (barred-12 r off d p (sound-tells r sh .back s) (there p) no-way);
+        other = λ p. ap (λ (x : Step). x .answer) (not-allowed r off d p sh s h no-one no-way);
       }
 
   -- a granted door
   green-next : getD (r .phase) d 0 ≡ granted → Light r d Green Red green
-  unfolding act effect allows orElse
+  unfolding act effect allows
   green-next is = lights Green Red green refl refl (rw is) (rw is) (λ _. refl)
 
   -- a denied one
   red-next : getD (r .phase) d 0 ≡ denied → Light r d Red Green red
-  unfolding act effect allows orElse
+  unfolding act effect allows
   red-next is = lights Red Green red refl refl (rw is) (rw is) (λ _. refl)
 
 -- whoever isn't admitted is denied
@@ -228,13 +226,13 @@ tables-stay r k d p = record { same-plan = plan-stays r k d p; same-rights = rig
 pub run-tables-stay : (r : Record) (rows : List StepRow) → SameTables r (lastOf r rows)
 run-tables-stay r rows = record { same-plan = run-plan r rows; same-rights = run-rights r rows }
 
--- a step that leaves its door as it is has nothing to alter
+-- a step that leaves its door as it is is an idle tick
 module _ (r : Record) (d p why : ℕ) where
   abbrev c : Door
   c = doorOf r d
 
   abbrev Same : Kind → Does → Type 0
-  Same k x = c ≡ becomes c x → NothingToAlter r d k
+  Same k x = c ≡ becomes c x → IdleTick r k d
 
   phase-is : {x : Door} → c ≡ x → c .phase ≡ x .phase
   phase-is e = ap (λ (y : Door). y .phase) e
@@ -248,13 +246,13 @@ module _ (r : Record) (d p why : ℕ) where
   only-then Decide ok e =
       let a = eqb-true (c .phase) read ok in
       either (Same Decide) (eqb why 0) (λ _ e. let b = phase-is e in absurd (omega arith)) (λ _ e. let b = phase-is e in absurd (omega arith)) e
-  only-then Green ok e = green-whole (phase-is e) (count-is e)
-  only-then Red ok e = red-whole (phase-is e) (count-is e)
+  only-then Green ok e = let a = eqb-true (c .phase) granted ok in let b = phase-is e in absurd (omega arith)
+  only-then Red ok e = let a = eqb-true (c .phase) denied ok in let b = phase-is e in absurd (omega arith)
   only-then Walk ok e = let a = eqb-true (c .phase) green ok in let b = phase-is e in absurd (omega arith)
   only-then Tick ok e =
       either (Same Tick) (eqb (c .phase) green) (λ is. lit (eqb-true _ _ is) (λ z. omega arith))
       (λ no-green.
-      either (Same Tick) (eqb (c .phase) red) (λ is. lit (eqb-true _ _ is) (λ z. omega arith)) (λ no-red _. no-light (eqb-false _ _ no-green) (eqb-false _ _ no-red))) e
+      either (Same Tick) (eqb (c .phase) red) (λ is. lit (eqb-true _ _ is) (λ z. omega arith)) (λ no-red _. record { tick = refl; no-green = eqb-false _ _ no-green; no-red = eqb-false _ _ no-red })) e
     where
       lit : {ph out : ℕ} → c .phase ≡ ph → (ph ≡ out → ⊥) → Same Tick (burns c out)
       lit {ph} {out} is other =
@@ -266,14 +264,12 @@ module _ (r : Record) (d p why : ℕ) where
   only-then Ack ok e = let a = eqb-true (c .phase) closed ok in let b = phase-is e in absurd (omega arith)
   only-then Unknown ok e = absurd (false≢true ok)
 
--- and a step that has nothing to alter alters nothing
-untouched : (r : Record) (k : Kind) (d p why : ℕ) → NothingToAlter r d k → act r d (effect k p why (doorOf r d)) .next ≡ r
+-- and an idle tick alters nothing
+untouched : (r : Record) (k : Kind) (d p why : ℕ) → IdleTick r k d → act r d (effect k p why (doorOf r d)) .next ≡ r
 unfolding act effect
-untouched r k d p why (no-light a b) = rw (ne-eqb (getD (r .phase) d 0) green a, ne-eqb (getD (r .phase) d 0) red b)
-untouched r k d p why (green-whole is whole) = put-as-is r d _ (λ i. record { phase = is i; holder = getD (r .holder) d 0; count = whole i })
-untouched r k d p why (red-whole is whole) = put-as-is r d _ (λ i. record { phase = is i; holder = getD (r .holder) d 0; count = whole i })
+untouched r k d p why idle = rw (idle .tick, ne-eqb (getD (r .phase) d 0) green (idle .no-green), ne-eqb (getD (r .phase) d 0) red (idle .no-red))
 
-pub alters : (r : Record) → Shaped r → Sound r → (k : Kind) (d p : ℕ) → stepOf r k d p .answer ≡ Done → (stepOf r k d p .next ≡ r) ↔ NothingToAlter r d k
+pub alters : (r : Record) → Shaped r → Sound r → (k : Kind) (d p : ℕ) → stepOf r k d p .answer ≡ Done → (stepOf r k d p .next ≡ r) ↔ IdleTick r k d
 alters r sh s k d p e =
     let w = done-did r k d p e in
     let why = reasonFor r d (getD (r .holder) d 0) in (
@@ -298,16 +294,16 @@ module _ (r : Record) (sh : Shaped r) (s : Sound r) (d : ℕ) (there : d < r .do
   in-phase : (ph : ℕ) → getD (r .phase) d 0 ≡ ph → doorOf r d ≡ door ph (getD (r .holder) d 0) (getD (r .count) d 0)
   in-phase ph is = ap (λ (x : ℕ). door x (getD (r .holder) d 0) (getD (r .count) d 0)) is
 
-  pub green-counts : getD (r .phase) d 0 ≡ green → CountsDown r d (NoGreenNoWalk d) green expired
+  pub green-counts : getD (r .phase) d 0 ≡ green → CountsDown r d (Each (NoWalk d)) green expired
   green-counts is =
       record {
         burns = λ rows quiet few. green-burns r d (getD (r .holder) d 0) (getD (r .count) d 0) rows sh s there (in-phase green is) quiet few;
         ends = λ rows quiet last q. green-expires r d (getD (r .holder) d 0) (getD (r .count) d 0) q rows sh s there (in-phase green is) quiet last;
       }
 
-  pub red-counts : getD (r .phase) d 0 ≡ red → CountsDown r d (NoRed d) red dimmed
+  pub red-counts : getD (r .phase) d 0 ≡ red → CountsDown r d (λ rows. Unit {0}) red dimmed
   red-counts is =
       record {
-        burns = λ rows quiet few. red-burns r d (getD (r .holder) d 0) (getD (r .count) d 0) rows sh s there (in-phase red is) quiet few;
-        ends = λ rows quiet last q. red-dims r d (getD (r .holder) d 0) (getD (r .count) d 0) q rows sh s there (in-phase red is) quiet last;
+        burns = λ rows _ few. red-burns r d (getD (r .holder) d 0) (getD (r .count) d 0) rows sh s there (in-phase red is) few;
+        ends = λ rows _ last q. red-dims r d (getD (r .holder) d 0) (getD (r .count) d 0) q rows sh s there (in-phase red is) last;
       }

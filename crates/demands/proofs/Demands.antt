@@ -28,6 +28,7 @@ use Rattle.site_sheet.proofs.Theorems.{accepted-exactly, accepted-holds}
 use Rattle.chapter.proofs.Theorems.{constants-obey, the-chapter, invariants-hold, panel-runs, one-move-a-row, no-door-stuck}
 use Rattle.demands.specs.DemandOne.{DemandOne}
 use Rattle.demands.specs.DemandTwo.{DemandTwo}
+use Rattle.run_events.proofs.Burning.{lights-told}
 use Rattle.card_by_card.specs.Served.{DemandThree}
 use Rattle.demands.specs.Bytes.{PrintedAsServed}
 use Rattle.card_by_card.specs.Warden.{PutByPassages, RefusedMovesNobody}
@@ -110,6 +111,7 @@ demand-2 =
       red-ordered = red-ordered;
       green-counts = green-counts;
       red-counts = red-counts;
+      lights = lights-told;
     }
 
 -- "3. Any list of steps from a fresh record can be served one card at a time, in the order of what was recorded, with everyone

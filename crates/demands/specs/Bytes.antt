@@ -10,6 +10,7 @@ use Rattle.run_events.specs.Lines.{Line, heardOf}
 use Rattle.run_events.specs.Events.{noSpells, spellsOf, eventsOf}
 use Rattle.run_events.specs.Told.{standing}
 use Rattle.run_events.specs.Open.{NamesOpenGrants}
+use Rattle.run_events.specs.Burning.{LightsTold}
 use Rattle.card_by_card.specs.Serving.{recorded}
 use Rattle.card_by_card.specs.Served.{decidedAt, decisionsAt, grantOpen, Alike, servedIn}
 
@@ -32,5 +33,8 @@ pub record PrintedAsServed (site steps : List ℕ) (said : Steps) : Type 0 where
   -- the door that a `decide` row answered 0 names with reason 3 is, by the lines before it, one whose own card of the same person was
   -- granted and has neither passed nor lapsed since;
   pub held-open : NamesOpenGrants (eventsOf noSpells 1 (heardIn site said))
+  -- each light burns for its span by the lines alone: from a `green` answered 0 on, at most 300 ticks of its door come before a line of that
+  -- door answered 0 has another phase than 3 or are that line, and from a `red` answered 0 on just 20 before or at one with another than 7;
+  pub lights : LightsTold (heardIn site said)
   -- and what `where` prints is what the served record prints
   pub places : whereText site steps ≡ recordText (servedIn (siteOf site .«record») (said .rows))

@@ -25,7 +25,7 @@ use Rattle.record.specs.Run.{lastOf}
 use Rattle.phases.specs.Kinds.{StepRow}
 use Rattle.phases.specs.Answers.{reasonBusy}
 use Rattle.granting.specs.Grants.{GrantAt}
-use Rattle.record.specs.Lights.{ticks, Each, NoGreenNoWalk, NoRed}
+use Rattle.record.specs.Lights.{ticks, Each, NoWalk}
 use Rattle.record.specs.Questions.{wayAnswerOf, wayWritten}
 use Rattle.verdict.specs.declared.Verdict.the-variants.{Accepted}
 use Rattle.grammar.specs.Sizes.{limit}
@@ -38,11 +38,12 @@ use Rattle.machines.specs.M3.{dap}
 use Rattle.machines.specs.M4.{Event}
 use Rattle.machines.specs.M4 as m4
 use Rattle.chapter.specs.Whole.{Chapter}
-use Rattle.chapter.specs.Reading.{constantsOf, stateOf, StandsFor, Enabled, Idle, FirstFailing}
-use Rattle.chapter.specs.Panel.{StartOfEach, OneMove, RunOfEach, Live}
-use Rattle.run_events.specs.Lines.{heardOf}
+use Rattle.chapter.specs.Reading.{constantsOf, stateOf, StandsFor, LitAlready, MayAct, Uneventful, FirstFailing}
+use Rattle.chapter.specs.Panel.{StartOfEach, OrderedAgain, OneMove, RunOfEach, Live}
+use Rattle.run_events.specs.Lines.{heardOf, rowsHeard}
+use Rattle.run_events.specs.Burning.{LightsTold}
 use Rattle.paper_cases.specs.Cases.{freshSite}
-use Rattle.paper_cases.specs.WholeRun.{runOf01, rowsHeard}
+use Rattle.paper_cases.specs.WholeRun.{runOf01}
 
 -- ---- the way outside
 
@@ -67,16 +68,19 @@ pub record WayOutside (site r : Record) (p : ℕ) : Type 0 where
 
 -- "Each step does what the events of the location access chapter, to its fourth refinement, say"
 pub record StepIsEvent (r : Record) (k : Kind) (d p : ℕ) : Type 0 where
-  -- "it acts exactly when it may": its event's guard holds, or it is a tick that takes no light's last
-  pub acts : (stepOf r k d p .answer ≡ Done) ↔ (Enabled r k d p ⊎ Idle r k d)
-  -- it does what the event does ..
-  pub does : (e : Event) → StandsFor r d p k e → m4.Guard (constantsOf r) (stateOf r) e
+  -- "it acts exactly when it may": its event's guard holds, and the light that it orders isn't burning already (02, C-13); or it is a tick
+  -- that takes no light's last
+  pub acts : (stepOf r k d p .answer ≡ Done) ↔ (MayAct r k d p ⊎ Uneventful r k d)
+  -- acting, it does what the event does ..
+  pub does : (e : Event) → stepOf r k d p .answer ≡ Done → StandsFor r d p k e → m4.Guard (constantsOf r) (stateOf r) e
       → Same (stateOf (stepOf r k d p .next)) (m4.action (constantsOf r) (stateOf r) e)
   -- .. of which there is one at most
   pub one : (e f : Event) → StandsFor r d p k e → m4.Guard (constantsOf r) (stateOf r) e → StandsFor r d p k f → m4.Guard (constantsOf r) (stateOf r) f → e ≡ f
   -- to the chapter, such a tick is nothing
-  pub ticks-on : Idle r k d → Same (stateOf (stepOf r k d p .next)) (stateOf r)
-  pub no-event : (e : Event) → Idle r k d → StandsFor r d p k e → ⊥
+  pub ticks-on : Uneventful r k d → Same (stateOf (stepOf r k d p .next)) (stateOf r)
+  pub no-event : (e : Event) → Uneventful r k d → StandsFor r d p k e → ⊥
+  -- the order for a light that is burning already: 12, and nothing altered
+  pub again : LitAlready (stateOf r) d k → OrderedAgain r k d p
   -- a step that doesn't act alters nothing
   pub refused : (stepOf r k d p .answer ≡ Done → ⊥) → stepOf r k d p .next ≡ r
   -- and the next record is as sound as this one
@@ -120,19 +124,19 @@ pub record SameTables (r next : Record) : Type 0 where
   pub same-plan : planOf next ≡ planOf r
   pub same-rights : next .right ≡ r .right
 
--- the steps that act and alter nothing: a tick of a door in neither 3 nor 7, and an order for a light whose countdown is still whole
-pub data NothingToAlter (r : Record) (d : ℕ) : Kind → Type 0 where
-  no-light : (getD (r .phase) d 0 ≡ green → ⊥) → (getD (r .phase) d 0 ≡ red → ⊥) → NothingToAlter r d Tick
-  green-whole : getD (r .phase) d 0 ≡ green → getD (r .count) d 0 ≡ greenSpan → NothingToAlter r d Green
-  red-whole : getD (r .phase) d 0 ≡ red → getD (r .count) d 0 ≡ redSpan → NothingToAlter r d Red
+-- an idle tick: the door is in neither 3 nor 7. "In any other phase: done, nothing altered."
+pub record IdleTick (r : Record) (k : Kind) (d : ℕ) : Type 0 where
+  pub tick : k ≡ Tick
+  pub no-green : getD (r .phase) d 0 ≡ green → ⊥
+  pub no-red : getD (r .phase) d 0 ≡ red → ⊥
 
--- "A green door that gets neither another `green` nor a `walk` is expired after exactly as many of its own ticks as its countdown
--- says": a light burns at door d of r. Through steps that are so, whatever they do at other doors, it burns while the door's ticks are
--- fewer than its countdown, which is less by just those; with the tick that makes them as many it is out. The door's person stays
-pub record CountsDown (r : Record) (d : ℕ) (Quiet : StepRow → Type 0) (burning out : ℕ) : Type 0 where
-  pub burns : (rows : List StepRow) → Each Quiet rows → ticks d rows < getD (r .count) d 0
+-- "is expired after exactly as many of its own ticks as its countdown says": a light burns at door d of r. Through steps that are so,
+-- whatever they do at other doors, it burns while the door's ticks are fewer than its countdown, which is less by just those; with the
+-- tick that makes them as many it is out. The door's person stays
+pub record CountsDown (r : Record) (d : ℕ) (Through : List StepRow → Type 0) (burning out : ℕ) : Type 0 where
+  pub burns : (rows : List StepRow) → Through rows → ticks d rows < getD (r .count) d 0
       → doorOf (lastOf r rows) d ≡ door burning (getD (r .holder) d 0) (getD (r .count) d 0 - ticks d rows)
-  pub ends : (rows : List StepRow) → Each Quiet rows → ticks d rows + 1 ≡ getD (r .count) d 0
+  pub ends : (rows : List StepRow) → Through rows → ticks d rows + 1 ≡ getD (r .count) d 0
       → (p : ℕ) → doorOf (stepOf (lastOf r rows) Tick d p .next) d ≡ door out (getD (r .holder) d 0) 0
 
 -- ---- all of it
@@ -175,16 +179,20 @@ pub record DemandTwo : Type 1 where
   -- whatever they do, a step and a list of steps leave the tables alone
   pub tables-stay : (r : Record) (k : Kind) (d p : ℕ) → SameTables r (stepOf r k d p .next)
   pub run-tables-stay : (r : Record) (rows : List StepRow) → SameTables r (lastOf r rows)
-  -- "one whose steps alter nothing": a step that acts alters the record, but for those that have nothing to alter
+  -- "one whose steps alter nothing": a step that acts leaves the record as it was if and only if it is an idle tick
   pub alters : (r : Record) → Shaped r → Sound r → (k : Kind) (d p : ℕ) → stepOf r k d p .answer ≡ Done
-      → (stepOf r k d p .next ≡ r) ↔ NothingToAlter r d k
+      → (stepOf r k d p .next ≡ r) ↔ IdleTick r k d
   -- "and one whose countdown isn't the span less its ticks": "`green`: .. countdown 300. `red`: .. countdown 20.",
   pub green-ordered : (r : Record) → Shaped r → Sound r → (d p : ℕ) → stepOf r Green d p .answer ≡ Done
       → doorOf (stepOf r Green d p .next) d ≡ door green (getD (r .holder) d 0) greenSpan
   pub red-ordered : (r : Record) → Shaped r → Sound r → (d p : ℕ) → stepOf r Red d p .answer ≡ Done
       → doorOf (stepOf r Red d p .next) d ≡ door red (getD (r .holder) d 0) redSpan
-  -- and from any countdown on, a light burns for just so many ticks
+  -- and from any countdown on, a light burns for just so many ticks: a green one through steps without a `walk` at its door, a red one
+  -- through any steps
   pub green-counts : (r : Record) → Shaped r → Sound r → (d : ℕ) → d < r .doors → getD (r .phase) d 0 ≡ green
-      → CountsDown r d (NoGreenNoWalk d) green expired
+      → CountsDown r d (Each (NoWalk d)) green expired
   pub red-counts : (r : Record) → Shaped r → Sound r → (d : ℕ) → d < r .doors → getD (r .phase) d 0 ≡ red
-      → CountsDown r d (NoRed d) red dimmed
+      → CountsDown r d (λ rows. Unit {0}) red dimmed
+  -- "Prove that between a grant's `green` and the step that ends its phase 3 lie at most 300 ticks of that door" (02, C-13), by what a run
+  -- tells alone; and just 20 between `red` and the end of its phase 7
+  pub lights : (r : Record) → Shaped r → Sound r → (rows : List StepRow) → LightsTold (heardOf r rows)

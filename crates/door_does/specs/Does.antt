@@ -21,9 +21,9 @@ unfoldable pub effect : Kind → ℕ → ℕ → Door → Does
 effect Card p why c = Turns (door read p 0) 0
 -- "`decide`: 1 to 2 or 6. .. Denied drops the person."
 effect Decide p why c = cond (eqb why 0) (Turns (door granted (c .holder) 0) 0) (Turns (door denied 0 0) why)
--- "`green`: 2 or 3 to 3, countdown 300."
+-- `green`: 2 to 3, "countdown 300."
 effect Green p why c = Turns (door green (c .holder) greenSpan) 0
--- "`red`: 6 or 7 to 7, countdown 20."
+-- `red`: 6 to 7, "countdown 20."
 effect Red p why c = Turns (door red (c .holder) redSpan) 0
 -- "`walk`: 3 to 4, countdown 0."
 effect Walk p why c = Turns (door walked (c .holder) 0) 0

@@ -40,11 +40,11 @@ use Rattle.site_lines.specs.Draft.{unmarked, siteRowFits, takeSite, doorRowFits
 use Rattle.site_lines.specs.Line.{wordNamed, siteLineAt, siteHeaderAt}
 use Rattle.site_lines.specs.Taking.{linesIn, readLines}
 use Rattle.site_sheet.specs.Site.{judgedDraft, settled, afterHeader, siteAt, siteOf}
-use Rattle.run_events.specs.Lines.{Line, linesOf, heardOf}
+use Rattle.run_events.specs.Lines.{Line, linesOf, rowsHeard, heardOf}
 use Rattle.card_by_card.specs.Serving.{stepAt, ticked}
 use Rattle.card_by_card.specs.Served.{Fresh}
 use Rattle.paper_cases.specs.Cases.{withoutExit, exitsInACircle, withoutDoor, withoutRightOf0, withoutRightOf1, freshSite, ToldAt, phaseAt, cardAt, goesThrough, greenFor, placeAfter, GivenBack, TwelveCases}
-use Rattle.paper_cases.specs.WholeRun.{runOf01, rowsHeard}
+use Rattle.paper_cases.specs.WholeRun.{runOf01}
 use Rattle.run_events.proofs.Steps.{heardLine}
 use Rattle.run_text.specs.Examples.{siteSheet}
 use Rattle.run_text.proofs.Examples.{soundLast, sound-last, site-of-01}

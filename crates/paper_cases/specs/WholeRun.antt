@@ -3,7 +3,6 @@ use Prim.Native.Nat.{ℕ}
 use mathlib.Core.List.{List, [], _∷_}
 use Rattle.phases.specs.declared.table.Kind.{Kind}
 use Rattle.phases.specs.declared.table.Kind.the-variants.{Card, Decide, Green, Red, Walk, Passed}
-use Rattle.phases.specs.Kinds.{StepRow}
 use Rattle.run_events.specs.Lines.{Line}
 
 -- a step of the steps sheet, and what the panel prints of it
@@ -24,8 +23,3 @@ runOf01 =
     printedLine Decide 0 0 12 9 0 0 ∷
     printedLine Card 9 0 11 0 0 0 ∷
     []
-
--- the steps alone
-unfoldable pub rowsHeard : List Line → List StepRow
-rowsHeard [] = []
-rowsHeard (line ∷ lines) = line .row ∷ rowsHeard lines

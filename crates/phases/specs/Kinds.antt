@@ -2,10 +2,9 @@
 use Prim.Native.Nat.{ℕ}
 use mathlib.Core.Bool.{Bool, true, false, cond}
 use lib.Dec.{eqb}
-use Rattle.tables.specs.Tables.{orElse}
 use Rattle.phases.specs.declared.table.Kind.{Kind}
 use Rattle.phases.specs.declared.table.Kind.the-variants.{Card, Decide, Green, Red, Walk, Tick, Passed, Lapsed, Dark, Ack, Unknown}
-use Rattle.phases.specs.Phase.{free, read, granted, green, walked, expired, denied, red, dimmed, closed}
+use Rattle.phases.specs.Phase.{free, read, granted, green, walked, expired, denied, dimmed, closed}
 
 -- the ten steps by number, in the paper's order; any other number is an unknown step
 unfoldable pub kindOf : ℕ → Kind
@@ -42,10 +41,9 @@ unfoldable pub allows : Kind → ℕ → Bool
 allows Card phase = eqb phase free
 -- "`decide`: 1 to 2 or 6"
 allows Decide phase = eqb phase read
--- "`green`: 2 or 3 to 3"
-allows Green phase = orElse (eqb phase granted) (eqb phase green)
--- "`red`: 6 or 7 to 7"
-allows Red phase = orElse (eqb phase denied) (eqb phase red)
+-- `green`: 2 to 3, and `red`: 6 to 7: "`green` in phase 3 and `red` in phase 7 aren't allowed any more" (02, C-13)
+allows Green phase = eqb phase granted
+allows Red phase = eqb phase denied
 -- "`walk`: 3 to 4"
 allows Walk phase = eqb phase green
 -- "`tick`: .. In any other phase: done, nothing altered."

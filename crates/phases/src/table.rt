@@ -72,7 +72,7 @@ const ALLOWED: [bool; 100] = [
     // green
     false,
     false,
-    true,
+    false,
     false,
     true,
     true,
@@ -117,7 +117,7 @@ const ALLOWED: [bool; 100] = [
     false,
     false,
     false,
-    true,
+    false,
     false,
     true,
     false,

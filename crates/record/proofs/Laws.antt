@@ -1,7 +1,8 @@
 -- What a step does and what it leaves alone: the laws of `stepOf`.
 --     step-cases                               a step is refused or done: what holds of both holds of each step
 --     done-did, allowed-does                   a step is done exactly when it may be, and does what its clause says
---     unsound-14, absent-11, barred-12         the refusals, in their order
+--     unsound-14, absent-11, barred-12, not-allowed
+--                                              the refusals, in their order
 --     sound-stays, shaped-stays                a sound record stays sound
 --     plan-stays, rights-stay, room-stays      a step alters nothing of the plan and the rights, nor the number of places,
 --     others-stay, places-stay                 of any other door and of anybody's place ..
@@ -37,7 +38,7 @@ use Rattle.phases.specs.declared.table.Kind.the-variants.{Card, Decide, Green, 
 use Rattle.phases.specs.declared.answer.Answer.{Answer}
 use Rattle.phases.specs.declared.answer.Answer.the-variants.{Done, NoSuch, NotAllowed, Unsound}
 use Rattle.record.specs.declared.steps.Step.{Step}
-use Rattle.phases.specs.Phase.{free, granted, green, walked, expired, denied, red, dimmed, closed, keeps, grants, lit}
+use Rattle.phases.specs.Phase.{free, read, granted, green, walked, expired, denied, red, dimmed, closed, keeps, grants, lit}
 use Rattle.door.specs.Door.{door}
 use Rattle.record.specs.Doors.{planOf, doorOf, Shaped}
 use Rattle.granting.specs.Grants.{GrantAt}
@@ -52,7 +53,7 @@ use Rattle.door_does.specs.Does.{burns, effect}
 use Rattle.deeds.specs.Deeds.{existAmong}
 use Rattle.record.specs.Steps.{reasonFor, Admitted, First, heldFor, HeldDoor, no-door, act, refused, exist, doing, soundStep, stepOf}
 use Rattle.record.specs.Run.{rowOf, lastOf}
-use Rattle.record.specs.Lights.{isTick, ticks, Each, end, step, NoGreenNoWalk, NoRed}
+use Rattle.record.specs.Lights.{isTick, ticks, Each, end, step, NoWalk}
 use Rattle.tables.proofs.Cases.{either, same-or-not, one-of}
 use Rattle.record.proofs.Keep.{put-same, put-other}
 use Rattle.record.proofs.Tells.{sound-tells}
@@ -127,6 +128,12 @@ pub barred-12 : (r : Record) (k : Kind) (d p : ℕ) → soundB r ≡ true → ex
     → stepOf r k d p ≡ refused r NotAllowed (getD (r .phase) d 0)
 unfolding stepOf soundStep
 barred-12 r k d p s e w = rw (s, e, w)
+
+-- so 12 for a step of a door that exists, which names no person and which the door's phase doesn't allow
+pub not-allowed : (r : Record) (k : Kind) (d p : ℕ) → Shaped r → Sound r → d < r .doors → namesPerson k ≡ false → allows k (getD (r .phase) d 0) ≡ false
+    → stepOf r k d p ≡ refused r NotAllowed (getD (r .phase) d 0)
+unfolding existAmong orElse andAlso
+not-allowed r k d p sh s h nobody no-way = barred-12 r k d p (sound-tells r sh .back s) (rw (lt-ltb d (r .doors) h, nobody)) no-way
 
 -- ---- what is kept
 
@@ -372,28 +379,28 @@ leaves r k d p n sh s e why ends =
     let told : stepOf r k d p .reason ≡ reasonIn (doing r k d p) = rw (done-did r k d p e .1) (act-tells r d (doing r k d p)) in
     subst Left (sym (door-after r k d p sh s e)) (gone k p (reasonFor r d (getD (r .holder) d 0)) n (doorOf r d) (sym told ∙ why) ends)
 
--- a phase that is one of two, or one, in which nobody is kept
-out : {A : Type 0} (ph a : ℕ) → keeps a ≡ false → eqb ph a ≡ true → keeps ph ≡ true → A
-out ph a no-one e k = clash k (rw (eqb-true ph a e) no-one)
+-- a phase that is one of which something isn't so can't be one of which it is
+out : {A : Type 0} (so : ℕ → Bool) (ph a : ℕ) → so a ≡ false → eqb ph a ≡ true → so ph ≡ true → A
+out so ph a not-so e is = clash is (rw (eqb-true ph a e) not-so)
 
 here : (k : Kind) (p why : ℕ) (c : Door) → allows k (c .phase) ≡ true → keeps (c .phase) ≡ true → (EndsStay k (reasonIn (effect k p why c)) → ⊥)
     → HeldOn c (becomes c (effect k p why c))
 unfolding effect allows keeps andAlso
-here Card p why c e k on = out (c .phase) free refl e k
+here Card p why c e k on = out keeps (c .phase) free refl e k
 here Decide p why c e k on =
     either (λ x. (EndsStay Decide (reasonIn x) → ⊥) → HeldOn c (becomes c x)) (eqb why 0) (λ _ _. record { kept = refl; same = refl })
     (λ z no-end. absurd (no-end (denial (eqb-false why 0 z)))) on
 here Green p why c e k on = record { kept = refl; same = refl }
-here Red p why c e k on = ⊎-elim (λ q. clash k (rw q refl)) (λ q. clash k (rw q refl)) (one-of (c .phase) denied red e)
+here Red p why c e k on = out keeps (c .phase) denied refl e k
 here Walk p why c e k on = record { kept = refl; same = refl }
 here Tick p why c e k on =
     either (λ x. HeldOn c (becomes c x)) (eqb (c .phase) green)
     (λ _. either (λ x. HeldOn c (becomes c x)) (ltb 1 (c .count)) (λ _. record { kept = k; same = refl }) (λ _. record { kept = refl; same = refl }))
-    (λ _. either (λ x. HeldOn c (becomes c x)) (eqb (c .phase) red) (λ q. out (c .phase) red refl q k) (λ _. record { kept = k; same = refl }))
+    (λ _. either (λ x. HeldOn c (becomes c x)) (eqb (c .phase) red) (λ q. out keeps (c .phase) red refl q k) (λ _. record { kept = k; same = refl }))
 here Passed p why c e k on = absurd (on passing)
 here Lapsed p why c e k on = absurd (on lapsing)
-here Dark p why c e k on = out (c .phase) dimmed refl e k
-here Ack p why c e k on = out (c .phase) closed refl e k
+here Dark p why c e k on = out keeps (c .phase) dimmed refl e k
+here Ack p why c e k on = out keeps (c .phase) closed refl e k
 here Unknown p why c e k on = absurd (false≢true e)
 
 -- .. and at no other step
@@ -440,10 +447,10 @@ unfolding soundStep existAmong allows andAlso orElse
 tick-done r d p sh s h = rw (sound-steps r Tick d p sh s, lt-ltb d (r .doors) h) (act-done r d (doing r Tick d p))
 
 -- a light's last tick, and each one before it
-burnt : ℕ → ℕ
+unfoldable pub burnt : ℕ → ℕ
 burnt ph = cond (eqb ph green) expired dimmed
 
-tick-last : (ph h n p why : ℕ) → lit ph ≡ true → n ≤ 1 → becomes (door ph h n) (effect Tick p why (door ph h n)) ≡ door (burnt ph) h 0
+pub tick-last : (ph h n p why : ℕ) → lit ph ≡ true → n ≤ 1 → becomes (door ph h n) (effect Tick p why (door ph h n)) ≡ door (burnt ph) h 0
 unfolding effect lit burnt
 tick-last ph h n p why lights le = ⊎-elim (λ (q : ph ≡ green). simp (q, le-ltb 1 n le)) (λ (q : ph ≡ red). simp (q, le-ltb 1 n le)) (one-of ph green red lights)
 
@@ -452,17 +459,17 @@ unfolding effect lit
 tick-more ph h n p why lights lt = ⊎-elim (λ (q : ph ≡ green). simp (q, lt-ltb 1 n lt)) (λ (q : ph ≡ red). simp (q, lt-ltb 1 n lt)) (one-of ph green red lights)
 
 -- the door after a tick
-tick-after : (r : Record) (d p ph h n : ℕ) (c : Door) → Shaped r → Sound r → d < r .doors → doorOf r d ≡ door ph h n
+pub tick-after : (r : Record) (d p ph h n : ℕ) (c : Door) → Shaped r → Sound r → d < r .doors → doorOf r d ≡ door ph h n
     → becomes (door ph h n) (effect Tick p (reasonFor r d (getD (r .holder) d 0)) (door ph h n)) ≡ c → doorOf (stepOf r Tick d p .next) d ≡ c
 tick-after r d p ph h n c sh s hd at to =
     door-after r Tick d p sh s (tick-done r d p sh s hd)
     ∙ (ap (λ (x : Door). becomes x (effect Tick p (reasonFor r d (getD (r .holder) d 0)) x)) at ∙ to)
 
 -- a step that isn't a tick of door d and that phase ph doesn't allow there
-abbrev Calm : ℕ → ℕ → StepRow → Type 0
+abbrev pub Calm : ℕ → ℕ → StepRow → Type 0
 Calm ph d row = row .at ≡ d → isTick (row .kind) ≡ false → allows (row .kind) ph ≡ false
 
-is-tick : (k : Kind) → isTick k ≡ true → k ≡ Tick
+pub is-tick : (k : Kind) → isTick k ≡ true → k ≡ Tick
 unfolding isTick
 is-tick Card e = absurd (false≢true e)
 is-tick Decide e = absurd (false≢true e)
@@ -476,11 +483,11 @@ is-tick Dark e = absurd (false≢true e)
 is-tick Ack e = absurd (false≢true e)
 is-tick Unknown e = absurd (false≢true e)
 
-ticks-on : (d : ℕ) (row : StepRow) (rows : List StepRow) → row .at ≡ d → isTick (row .kind) ≡ true → ticks d (row ∷ rows) ≡ suc (ticks d rows)
+pub ticks-on : (d : ℕ) (row : StepRow) (rows : List StepRow) → row .at ≡ d → isTick (row .kind) ≡ true → ticks d (row ∷ rows) ≡ suc (ticks d rows)
 unfolding ticks andAlso
 ticks-on d row rows at tick = simp (eq-eqb _ _ at, tick)
 
-ticks-idle : (d : ℕ) (row : StepRow) (rows : List StepRow) → isTick (row .kind) ≡ false → ticks d (row ∷ rows) ≡ ticks d rows
+pub ticks-idle : (d : ℕ) (row : StepRow) (rows : List StepRow) → isTick (row .kind) ≡ false → ticks d (row ∷ rows) ≡ ticks d rows
 unfolding ticks andAlso
 ticks-idle d row rows idle = rw idle (go (eqb (row .at) d))
   where
@@ -488,21 +495,35 @@ ticks-idle d row rows idle = rw idle (go (eqb (row .at) d))
     go true = refl
     go false = refl
 
-ticks-off : (d : ℕ) (row : StepRow) (rows : List StepRow) → (row .at ≡ d → ⊥) → ticks d (row ∷ rows) ≡ ticks d rows
+pub ticks-off : (d : ℕ) (row : StepRow) (rows : List StepRow) → (row .at ≡ d → ⊥) → ticks d (row ∷ rows) ≡ ticks d rows
 unfolding ticks andAlso
 ticks-off d row rows away = simp (ne-eqb _ _ away)
 
 -- a light burns at door d with a countdown of n, of which the list takes off fewer
-record Burning (ph d h : ℕ) (rows : List StepRow) (r : Record) (n : ℕ) : Type 0 where
-  shaped : Shaped r
-  sound : Sound r
-  exists : d < r .doors
-  burns : lit ph ≡ true
-  now : doorOf r d ≡ door ph h n
-  more : ticks d rows < n
+pub record Burning (ph d h : ℕ) (rows : List StepRow) (r : Record) (n : ℕ) : Type 0 where
+  pub shaped : Shaped r
+  pub sound : Sound r
+  pub exists : d < r .doors
+  pub burns : lit ph ≡ true
+  pub now : doorOf r d ≡ door ph h n
+  pub more : ticks d rows < n
+
+-- and so it does after a step that leaves it another countdown
+pub burns-next : (ph d h : ℕ) (rows : List StepRow) (r : Record) (n : ℕ) → Burning ph d h rows r n → (row : StepRow) (rest : List StepRow) (m : ℕ)
+    → doorOf (rowOf r row .next) d ≡ door ph h m → ticks d rest < m → Burning ph d h rest (rowOf r row .next) m
+burns-next ph d h rows r n b row rest m to few =
+    let k = row .kind in
+    record {
+      shaped = shaped-stays r k (row .at) (row .person) (b .shaped);
+      sound = sound-stays r k (row .at) (row .person) (b .shaped) (b .sound);
+      exists = rw (ap (λ (site : Plan). site .doors) (plan-stays r k (row .at) (row .person))) (b .exists);
+      burns = b .burns;
+      now = to;
+      more = few;
+    }
 
 -- one step of a calm list: a tick of the door takes one off, all else nothing
-calm-row : (r : Record) (d ph h n : ℕ) (row : StepRow) (rows : List StepRow) → Burning ph d h (row ∷ rows) r n → Calm ph d row
+pub calm-row : (r : Record) (d ph h n : ℕ) (row : StepRow) (rows : List StepRow) → Burning ph d h (row ∷ rows) r n → Calm ph d row
     → (m : ℕ) × (doorOf (rowOf r row .next) d ≡ door ph h m) × (m + ticks d (row ∷ rows) ≡ n + ticks d rows)
 calm-row r d ph h n row rows b calm = ⊎-elim (λ is. ticking is (isTick (row .kind)) refl) other (same-or-not (row .at) d)
   where
@@ -533,21 +554,13 @@ calm-burns ph d h rows end r n b =
       now = b .now ∙ ap (λ (m : ℕ). door ph h m) (omega arith);
       more = let more = b .more in omega arith;
     }
-calm-burns ph d h rows (step {row} {rows = rest} calm calms) r n b =
+calm-burns ph d h rows (step {one = row} {more = rest} calm calms) r n b =
     let one = calm-row r d ph h n row rest b calm in
     let sum = one .2 in
     let more = b .more in
-    let k = row .kind in
     subst (λ (m : ℕ). Burning ph d h [] (lastOf (rowOf r row .next) rest) m) (omega arith)
     (calm-burns ph d h rest calms (rowOf r row .next) (one .0)
-    (record {
-      shaped = shaped-stays r k (row .at) (row .person) (b .shaped);
-      sound = sound-stays r k (row .at) (row .person) (b .shaped) (b .sound);
-      exists = rw (ap (λ (site : Plan). site .doors) (plan-stays r k (row .at) (row .person))) (b .exists);
-      burns = b .burns;
-      now = one .1;
-      more = omega arith;
-    }))
+    (burns-next ph d h (row ∷ rest) r n b row rest (one .0) (one .1) (omega arith)))
 
 -- and the tick that takes the last one off puts it out
 calm-ends : (ph d h : ℕ) (rows : List StepRow) → Each (Calm ph d) rows → (r : Record) (n p : ℕ) → Burning ph d h rows r n → ticks d rows + 1 ≡ n
@@ -559,73 +572,72 @@ calm-ends ph d h rows calms r n p b last =
 
 each-as : {P Q : StepRow → Type 0} {rows : List StepRow} → ((row : StepRow) → P row → Q row) → Each P rows → Each Q rows
 each-as f end = end
-each-as f (step {row} p ps) = step (f row p) (each-as f ps)
+each-as f (step {one} p ps) = step (f one p) (each-as f ps)
 
--- which steps a burning light allows, but for ticks
-calm-green : (d : ℕ) (row : StepRow) → NoGreenNoWalk d row → Calm green d row
-unfolding allows isTick orElse
-calm-green d row no-row is = go (row .kind) (no-row .no-green is) (no-row .no-walk is)
+each-so : {P : StepRow → Type 0} → ((row : StepRow) → P row) → (rows : List StepRow) → Each P rows
+each-so f [] = end
+each-so f (row ∷ rows) = step (f row) (each-so f rows)
+
+-- but for ticks, a burning light allows a green door's `walk` alone
+pub only-walk : (ph : ℕ) → lit ph ≡ true → (k : Kind) → isTick k ≡ false → allows k ph ≡ true → (k ≡ Walk) × (ph ≡ green)
+unfolding allows isTick lit orElse
+only-walk ph on Card t e = out lit ph free refl e on
+only-walk ph on Decide t e = out lit ph read refl e on
+only-walk ph on Green t e = out lit ph granted refl e on
+only-walk ph on Red t e = out lit ph denied refl e on
+only-walk ph on Walk t e = (refl, eqb-true ph green e)
+only-walk ph on Tick t e = absurd (true≢false t)
+only-walk ph on Passed t e = out lit ph walked refl e on
+only-walk ph on Lapsed t e = out lit ph expired refl e on
+only-walk ph on Dark t e = out lit ph dimmed refl e on
+only-walk ph on Ack t e = out lit ph closed refl e on
+only-walk ph on Unknown t e = absurd (false≢true e)
+
+calm-else : (ph d : ℕ) → lit ph ≡ true → (row : StepRow) → (row .at ≡ d → row .kind ≡ Walk → ph ≡ green → ⊥) → Calm ph d row
+calm-else ph d on row no-walk is idle = go (allows (row .kind) ph) refl
   where
-    go : (k : Kind) → (k ≡ Green → ⊥) → (k ≡ Walk → ⊥) → isTick k ≡ false → allows k green ≡ false
-    go Card g w t = refl
-    go Decide g w t = refl
-    go Green g w t = absurd (g refl)
-    go Red g w t = refl
-    go Walk g w t = absurd (w refl)
-    go Tick g w t = t
-    go Passed g w t = refl
-    go Lapsed g w t = refl
-    go Dark g w t = refl
-    go Ack g w t = refl
-    go Unknown g w t = refl
+    go : (b : Bool) → allows (row .kind) ph ≡ b → b ≡ false
+    go true e = let walks = only-walk ph on (row .kind) idle e in absurd (no-walk is (walks .0) (walks .1))
+    go false e = refl
 
-calm-red : (d : ℕ) (row : StepRow) → NoRed d row → Calm red d row
-unfolding allows isTick orElse
-calm-red d row no-row is = go (row .kind) (no-row .no-red is)
-  where
-    go : (k : Kind) → (k ≡ Red → ⊥) → isTick k ≡ false → allows k red ≡ false
-    go Card g t = refl
-    go Decide g t = refl
-    go Green g t = refl
-    go Red g t = absurd (g refl)
-    go Walk g t = refl
-    go Tick g t = t
-    go Passed g t = refl
-    go Lapsed g t = refl
-    go Dark g t = refl
-    go Ack g t = refl
-    go Unknown g t = refl
+calm-green : (d : ℕ) {rows : List StepRow} → Each (NoWalk d) rows → Each (Calm green d) rows
+unfolding lit orElse
+calm-green d = each-as (λ row no-walk. calm-else green d refl row (λ is walks _. no-walk is walks))
 
--- "A green door that gets neither another `green` nor a `walk` is expired after exactly as many of its own ticks as its
--- countdown says", whatever happens at other doors: with fewer ticks it is green, its countdown less the ticks; ..
+calm-red : (d : ℕ) (rows : List StepRow) → Each (Calm red d) rows
+unfolding lit orElse
+calm-red d = each-so (λ row. calm-else red d refl row (λ _ _ z. omega arith))
+
+-- A green door that gets no `walk` "is expired after exactly as many of its own ticks as its countdown says", whatever else comes,
+-- another `green` too: with fewer ticks it is green, its countdown less the ticks; ..
 pub green-burns : (r : Record) (d h n : ℕ) (rows : List StepRow) → Shaped r → Sound r → d < r .doors → doorOf r d ≡ door green h n
-    → Each (NoGreenNoWalk d) rows → ticks d rows < n → doorOf (lastOf r rows) d ≡ door green h (n - ticks d rows)
+    → Each (NoWalk d) rows → ticks d rows < n → doorOf (lastOf r rows) d ≡ door green h (n - ticks d rows)
 unfolding lit orElse
 green-burns r d h n rows sh s hd at quiet few =
-    calm-burns green d h rows (each-as (calm-green d) quiet) r n
+    calm-burns green d h rows (calm-green d quiet) r n
     (record { shaped = sh; sound = s; exists = hd; burns = refl; now = at; more = few }) .now
 
 -- .. and the tick with which they are as many makes it expired, still holding the person
 pub green-expires : (r : Record) (d h n p : ℕ) (rows : List StepRow) → Shaped r → Sound r → d < r .doors → doorOf r d ≡ door green h n
-    → Each (NoGreenNoWalk d) rows → ticks d rows + 1 ≡ n → doorOf (stepOf (lastOf r rows) Tick d p .next) d ≡ door expired h 0
+    → Each (NoWalk d) rows → ticks d rows + 1 ≡ n → doorOf (stepOf (lastOf r rows) Tick d p .next) d ≡ door expired h 0
 unfolding lit orElse burnt
 green-expires r d h n p rows sh s hd at quiet last =
-    calm-ends green d h rows (each-as (calm-green d) quiet) r n p
+    calm-ends green d h rows (calm-green d quiet) r n p
     (record { shaped = sh; sound = s; exists = hd; burns = refl; now = at; more = omega arith }) last
 
--- the same of a red door that gets no other `red`
+-- the same of a red door, whatever comes
 pub red-burns : (r : Record) (d h n : ℕ) (rows : List StepRow) → Shaped r → Sound r → d < r .doors → doorOf r d ≡ door red h n
-    → Each (NoRed d) rows → ticks d rows < n → doorOf (lastOf r rows) d ≡ door red h (n - ticks d rows)
+    → ticks d rows < n → doorOf (lastOf r rows) d ≡ door red h (n - ticks d rows)
 unfolding lit orElse
-red-burns r d h n rows sh s hd at quiet few =
-    calm-burns red d h rows (each-as (calm-red d) quiet) r n
+red-burns r d h n rows sh s hd at few =
+    calm-burns red d h rows (calm-red d rows) r n
     (record { shaped = sh; sound = s; exists = hd; burns = refl; now = at; more = few }) .now
 
 pub red-dims : (r : Record) (d h n p : ℕ) (rows : List StepRow) → Shaped r → Sound r → d < r .doors → doorOf r d ≡ door red h n
-    → Each (NoRed d) rows → ticks d rows + 1 ≡ n → doorOf (stepOf (lastOf r rows) Tick d p .next) d ≡ door dimmed h 0
+    → ticks d rows + 1 ≡ n → doorOf (stepOf (lastOf r rows) Tick d p .next) d ≡ door dimmed h 0
 unfolding lit orElse burnt
-red-dims r d h n p rows sh s hd at quiet last =
-    calm-ends red d h rows (each-as (calm-red d) quiet) r n p
+red-dims r d h n p rows sh s hd at last =
+    calm-ends red d h rows (calm-red d rows) r n p
     (record { shaped = sh; sound = s; exists = hd; burns = refl; now = at; more = omega arith }) last
 
 -- ---- a whole list of steps

@@ -25,7 +25,7 @@ use Rattle.door_does.specs.declared.Does.the-variants.{Stays, Turns, Moves}
 use Rattle.door_does.specs.Does.{burns, effect}
 use Rattle.granting.specs.Reasons.{firstReason, heldWith}
 use Rattle.record.specs.Steps.{reasonFor, Admitted, First, none, away, barred, busy, heldFor, HeldDoor, the-grant, no-door, act}
-use Rattle.tables.proofs.Cases.{either, same-or-not, one-of}
+use Rattle.tables.proofs.Cases.{either, same-or-not}
 use Rattle.granting.proofs.Granting.{no-grant, has-grant, none-found, one-found, grant-is}
 use Rattle.record.proofs.Keep.{put-same, put-grant, put-sound, put-shaped, at-sound, at-shaped}
 
@@ -209,8 +209,8 @@ module _ (r : Record) (d : ℕ) (ok : DoorOk r d (doorOf r d)) where
   unfolding allows effect keeps grants leastCount mostCount lit andAlso orElse
   right Card p why e exists reason = right-card p why (exists refl)
   right Decide p why e exists reason = right-decide p why (eqb-true _ _ e) (reason refl)
-  right Green p why e exists reason = right-on green greenSpan (lit≤ tt) refl (lit≤ tt) (lit≤ tt) (⊎-elim (λ q. rw q) (λ q. rw q) (one-of (getD (r .phase) d 0) granted green e))
-  right Red p why e exists reason = right-off red redSpan (lit≤ tt) refl refl (lit≤ tt) (lit≤ tt) (⊎-elim (λ q. rw q) (λ q. rw q) (one-of (getD (r .phase) d 0) denied red e))
+  right Green p why e exists reason = right-on green greenSpan (lit≤ tt) refl (lit≤ tt) (lit≤ tt) (rw (eqb-true (getD (r .phase) d 0) granted e))
+  right Red p why e exists reason = right-off red redSpan (lit≤ tt) refl refl (lit≤ tt) (lit≤ tt) (rw (eqb-true (getD (r .phase) d 0) denied e))
   right Walk p why e exists reason = right-on walked 0 (lit≤ tt) refl (lit≤ tt) (lit≤ tt) (rw (eqb-true (getD (r .phase) d 0) green e))
   right Tick p why e exists reason = right-tick p why
   right Passed p why e exists reason =

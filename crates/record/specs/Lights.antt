@@ -1,5 +1,5 @@
--- What a list of steps does to a light (01, "Steps": "A green door that gets neither another `green` nor a `walk` is expired
--- after exactly as many of its own ticks as its countdown says").
+-- What a list of steps does to a light. Of 01's "A green door that gets neither another `green` nor a `walk` is expired after exactly
+-- as many of its own ticks as its countdown says" only the `walk` is left: another `green` is refused (02, C-13).
 use Prim.Native.Nat.{ℕ, suc}
 use mathlib.Core.Path.{_≡_}
 use mathlib.Core.Bool.{Bool, true, false, cond}
@@ -28,16 +28,11 @@ unfoldable pub ticks : ℕ → List StepRow → ℕ
 ticks d [] = 0
 ticks d (row ∷ rows) = cond (andAlso (eqb (row .at) d) (isTick (row .kind))) (suc (ticks d rows)) (ticks d rows)
 
--- every step of the list is so
-pub data Each (So : StepRow → Type 0) : List StepRow → Type 0 where
+-- every member of the list is so
+pub data Each {A : Type 0} (So : A → Type 0) : List A → Type 0 where
   end : Each So []
-  step : {row : StepRow} {rows : List StepRow} → So row → Each So rows → Each So (row ∷ rows)
+  step : {one : A} {more : List A} → So one → Each So more → Each So (one ∷ more)
 
--- "neither another `green` nor a `walk`" at door d
-pub record NoGreenNoWalk (d : ℕ) (row : StepRow) : Type 0 where
-  pub no-green : row .at ≡ d → row .kind ≡ Green → ⊥
-  pub no-walk : row .at ≡ d → row .kind ≡ Walk → ⊥
-
--- no other `red` at door d
-pub record NoRed (d : ℕ) (row : StepRow) : Type 0 where
-  pub no-red : row .at ≡ d → row .kind ≡ Red → ⊥
+-- the step is no `walk` at door d
+abbrev pub NoWalk : ℕ → StepRow → Type 0
+NoWalk d row = row .at ≡ d → row .kind ≡ Walk → ⊥

@@ -3,12 +3,11 @@
 use Prim.Native.Nat.{ℕ}
 use mathlib.Core.Path.{_≡_, refl, _∙_}
 use mathlib.Core.Bool.{Bool, true, false, false≢true}
-use mathlib.Core.Logic.{⊎-elim}
 use mathlib.Core.List.{[], map}
 use borrow.Author.Tests.{eqb-true}
 use lib.Dec.{eqb, ltb}
 use Rattle.tables.specs.Tables.{andAlso}
-use Rattle.tables.proofs.Cases.{either, one-of}
+use Rattle.tables.proofs.Cases.{either}
 use Rattle.door.specs.declared.Door.{Door}
 use Rattle.door_does.specs.declared.Does.{Does}
 use Rattle.door_does.specs.Does.{effect}
@@ -66,8 +65,8 @@ pub data Quiet : Kind → Type 0 where
 -- they leave standing what stood there
 pub stands : {k : Kind} (p why : ℕ) (c : Door) → Quiet k → allows k (c .phase) ≡ true → standingAt (becomes c (effect k p why c)) ≡ standingAt c
 unfolding allows effect standingAt grants andAlso
-stands p why c a-green ok = ⊎-elim (λ (is : c .phase ≡ granted). rw is) (λ (is : c .phase ≡ green). rw is) (one-of (c .phase) granted green ok)
-stands p why c a-red ok = ⊎-elim (λ (is : c .phase ≡ denied). rw is) (λ (is : c .phase ≡ red). rw is) (one-of (c .phase) denied red ok)
+stands p why c a-green ok = rw (eqb-true (c .phase) granted ok)
+stands p why c a-red ok = rw (eqb-true (c .phase) denied ok)
 stands p why c a-walk ok = rw (eqb-true (c .phase) green ok)
 stands p why c a-tick ok =
     either (λ x. standingAt (becomes c x) ≡ standingAt c) (eqb (c .phase) green)

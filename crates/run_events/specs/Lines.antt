@@ -15,6 +15,11 @@ linesOf [] replies = []
 linesOf (row ∷ rows) [] = []
 linesOf (row ∷ rows) (reply ∷ replies) = record { row = row; reply = reply } ∷ linesOf rows replies
 
+-- the steps alone
+unfoldable pub rowsHeard : List Line → List StepRow
+rowsHeard [] = []
+rowsHeard (line ∷ lines) = line .row ∷ rowsHeard lines
+
 -- the run of a list of steps, as it is told
 unfoldable pub heardOf : Record → List StepRow → List Line
 heardOf r rows = linesOf rows (repliesOf r rows)
