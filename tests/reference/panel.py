@@ -3,7 +3,8 @@
 It imports nothing of the project and shares no text with it. `read_site` and `verdict` are the section "Site sheet" with
 "Numbers given back", `Panel` the sections "The record" and "Steps", `panel_text` and `where_text` the section "Program and one
 whole run". `events_of` has the grants, denials, passages and lapses of a run, for which C-11 of 02 wants lines. `held` is what C-12
-of 02 adds to an answer: with reason 3 the door that is granted to the person, else 0.
+of 02 adds to an answer: with reason 3 the door that is granted to the person, else 0. By C-13 of 02, which mends "Steps", an order for
+a light that burns is refused.
 """
 
 LONGEST_SHEET = 49152

@@ -4,11 +4,14 @@ What is reached is a sentence: what a site sheet is told and where, how a steps 
 with reason 3, or which event there is at which door and of whom. `wanted` has all such that the papers allow, so a case that reaches
 anything else is a fault too.
 """
-from panel import (CLOSED, DENIED, DIMMED, ELSEWHERE, EXPIRED, FREE, GRANTED, GREEN, LONGEST_SHEET, READ, RED, STEPS, WALKED, Panel,
-                   Refused, read_site, rows, step_of)
+from panel import (CLOSED, DENIED, DIMMED, ELSEWHERE, EXPIRED, FREE, GRANTED, GREEN, GREEN_TICKS, LONGEST_SHEET, READ, RED, RED_TICKS,
+                   STEPS, WALKED, Panel, Refused, read_site, rows, step_of)
 
 # A sheet may be as long as the first, and not as long as the second.
 LIMITS = (LONGEST_SHEET, LONGEST_SHEET + 1)
+
+# How many ticks a light burns for.
+SPANS = {GREEN: GREEN_TICKS, RED: RED_TICKS}
 
 # The first place that a number can be told with: the header, the first or the second data row, location 1, person 0.
 FIRST_PLACES = {2: 0, 3: 1, 4: 2, 6: 1, 7: 1, 8: 1, 9: 0, 10: 0}
@@ -120,16 +123,16 @@ def reached_by_denial(panel, door, person, held):
 
 
 def reached_by_step(panel, again, name, door, person):
-    """What a step reaches; `again` has the doors whose light was ordered again while it burned."""
+    """What a step reaches; `again` has the doors whose light was ordered again when it had lost a tick at least."""
     if door >= len(panel.phase):
         yield answered(name, "at no door", *panel.step(name, door, person))
         return
-    before, holder, events = panel.phase[door], panel.holds[door], len(panel.events)
+    before, left, holder, events = panel.phase[door], panel.countdown[door], panel.holds[door], len(panel.events)
     answer, after, reason, held = panel.step(name, door, person)
     yield answered(name, in_phase(before), answer, after, reason, held)
     if reason == ELSEWHERE:
         yield from reached_by_denial(panel, door, holder, held)
-    if (name, before) in (("green", GREEN), ("red", RED)):
+    if (name, before) in (("green", GREEN), ("red", RED)) and left < SPANS[before]:
         again.add(door)
     elif before == FREE:
         again.discard(door)

@@ -136,7 +136,7 @@ pub record MayAct (r : Record) (k : Kind) (d p : ℕ) : Type 0 where
 
 -- ---- a tick that is no event
 
--- it is of a door without a light, or its light's countdown doesn't reach 0
+-- no light burns at its door, or the light's countdown doesn't reach 0
 pub record Uneventful (r : Record) (k : Kind) (d : ℕ) : Type 0 where
   pub tick : k ≡ Tick
   pub exists : d < r .doors

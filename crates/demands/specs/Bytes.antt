@@ -33,8 +33,9 @@ pub record PrintedAsServed (site steps : List ℕ) (said : Steps) : Type 0 where
   -- the door that a `decide` row answered 0 names with reason 3 is, by the lines before it, one whose own card of the same person was
   -- granted and has neither passed nor lapsed since;
   pub held-open : NamesOpenGrants (eventsOf noSpells 1 (heardIn site said))
-  -- each light burns for its span by the lines alone: from a `green` answered 0 on, at most 300 ticks of its door come before a line of that
-  -- door answered 0 has another phase than 3 or are that line, and from a `red` answered 0 on just 20 before or at one with another than 7;
+  -- from a `green` answered 0 to the first line of its door that was answered 0 with another phase than 3, that line counted, there are at
+  -- most 300 ticks of the door, and just 300 unless that line is a `walk`; from a `red`, up to another phase than 7, just 20. While there is
+  -- no such line they are fewer, and only ticks are answered 0 at that door;
   pub lights : LightsTold (heardIn site said)
   -- and what `where` prints is what the served record prints
   pub places : whereText site steps ≡ recordText (servedIn (siteOf site .«record») (said .rows))

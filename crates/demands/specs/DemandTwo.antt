@@ -130,9 +130,9 @@ pub record IdleTick (r : Record) (k : Kind) (d : ℕ) : Type 0 where
   pub no-green : getD (r .phase) d 0 ≡ green → ⊥
   pub no-red : getD (r .phase) d 0 ≡ red → ⊥
 
--- "is expired after exactly as many of its own ticks as its countdown says": a light burns at door d of r. Through steps that are so,
--- whatever they do at other doors, it burns while the door's ticks are fewer than its countdown, which is less by just those; with the
--- tick that makes them as many it is out. The door's person stays
+-- "is expired after exactly as many of its own ticks as its countdown says": a light burns at door d of r. Through every list of steps of
+-- which Through holds, it burns while the door's ticks are fewer than its countdown, which is less by just those; with the tick that
+-- makes them as many it is out. The door's person stays
 pub record CountsDown (r : Record) (d : ℕ) (Through : List StepRow → Type 0) (burning out : ℕ) : Type 0 where
   pub burns : (rows : List StepRow) → Through rows → ticks d rows < getD (r .count) d 0
       → doorOf (lastOf r rows) d ≡ door burning (getD (r .holder) d 0) (getD (r .count) d 0 - ticks d rows)

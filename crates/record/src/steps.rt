@@ -95,14 +95,14 @@ impl Record {
         self.step(Kind::Decide, door, 0)
     }
 
-    // The green light is ordered, or ordered again.
+    // The green light is ordered.
     pub fn green(self, door: usize) -> Step
         ensures { λ r. ⌜ r ≡ stepOf self Kind.Green door 0 ⌝ }
     {
         self.step(Kind::Green, door, 0)
     }
 
-    // The red light is ordered, or ordered again.
+    // The red light is ordered.
     pub fn red(self, door: usize) -> Step
         ensures { λ r. ⌜ r ≡ stepOf self Kind.Red door 0 ⌝ }
     {

@@ -33,7 +33,7 @@ use Rattle.record.specs.Lights.{isTick, ticks, Each, end, step}
 use Rattle.record.proofs.Tells.{sound-tells}
 use Rattle.record.proofs.Laws.{done-did, allowed-does, act-done, shaped-stays, sound-stays, plan-stays, becomes, door-after, tick-done, tick-last, tick-after, burnt, Calm, is-tick, ticks-on, ticks-idle, ticks-off, Burning, burns-next, calm-row, only-walk}
 use Rattle.run_events.specs.Lines.{Line, linesOf, heardOf, rowsHeard}
-use Rattle.run_events.specs.Burning.{Orders, EndsPhase, StillLit, WentOut, ticksIn, burned, LightsTold}
+use Rattle.run_events.specs.Burning.{Orders, EndsPhase, OnlyTicks, StillLit, WentOut, ticksIn, burned, LightsTold}
 use Rattle.run_events.proofs.Steps.{heardLine, act-reply}
 use Rattle.run_events.proofs.Spells.{differ}
 
@@ -100,7 +100,8 @@ burnt-dark ph = go (eqb ph green)
 
 -- with a countdown of n the light burns on, less by the row's tick, or the row's line ends its phase
 data Onward (ph d h n : ℕ) (row : StepRow) (z : Step) : Type 0 where
-  on : (m : ℕ) → doorOf (z .next) d ≡ door ph h m → m + ticks d (row ∷ []) ≡ n → 0 < m → (EndsPhase d ph (heardLine row z) → ⊥) → Onward ph d h n row z
+  on : (m : ℕ) → doorOf (z .next) d ≡ door ph h m → m + ticks d (row ∷ []) ≡ n → 0 < m → OnlyTicks d (heardLine row z) → (EndsPhase d ph (heardLine row z) → ⊥)
+      → Onward ph d h n row z
   off : ticks d (row ∷ []) ≤ n → ((row .kind ≡ Walk → ⊥) → ticks d (row ∷ []) ≡ n) → (row .kind ≡ Walk → ph ≡ green) → EndsPhase d ph (heardLine row z)
       → Onward ph d h n row z
 
@@ -116,10 +117,22 @@ module _ (ph d h n : ℕ) (r : Record) (b : Burning ph d h [] r n) (row : StepRo
   ends-with : row .at ≡ d → rowOf r row .answer ≡ Done → (c : Door) → doorOf (rowOf r row .next) d ≡ c → (c .phase ≡ ph → ⊥) → EndsPhase d ph (heardLine row z)
   ends-with at done c to other =
       record {
-        here = at;
-        done = ap answerNo done;
+        acts = record { here = at; done = ap answerNo done };
         other = λ same. other (sym (phase-told r row (b .shaped) (b .sound) done ∙ ap (λ (x : Door). x .phase) (subst (λ (e : ℕ). doorOf (rowOf r row .next) e ≡ c) (sym at) to)) ∙ same);
       }
+
+  -- a calm step that is done there is a tick
+  only-ticks : Calm ph d row → OnlyTicks d (heardLine row z)
+  only-ticks calm acts = go (isTick (row .kind)) refl
+    where
+      may : allows (row .kind) ph ≡ true
+      may =
+          rw (sym (ap (λ (c : Door). c .phase) (b .now)), sym (acts .here))
+          (done-did r (row .kind) (row .at) (row .person) (is-done _ (acts .done)) .0 .allowed)
+
+      go : (tick : Bool) → isTick (row .kind) ≡ tick → row .kind ≡ Tick
+      go true e = is-tick (row .kind) e
+      go false e = clash may (calm (acts .here) e)
 
   -- a calm step that isn't the last tick
   burns-on : Calm ph d row → ticks d (row ∷ []) < n → Onward ph d h n row z
@@ -127,10 +140,10 @@ module _ (ph d h n : ℕ) (r : Record) (b : Burning ph d h [] r n) (row : StepRo
   burns-on calm few =
       let one = calm-row r d ph h n row [] (record { shaped = b .shaped; sound = b .sound; exists = b .exists; burns = b .burns; now = b .now; more = few }) calm in
       let sum = one .2 in
-      on (one .0) (one .1) (omega arith) (omega arith)
+      on (one .0) (one .1) (omega arith) (omega arith) (only-ticks calm)
       (λ ends.
-      let to = subst (λ (e : ℕ). doorOf (rowOf r row .next) e ≡ door ph h (one .0)) (sym (ends .here)) (one .1) in
-      ends .other (phase-told r row (b .shaped) (b .sound) (is-done _ (ends .done)) ∙ ap (λ (c : Door). c .phase) to))
+      let to = subst (λ (e : ℕ). doorOf (rowOf r row .next) e ≡ door ph h (one .0)) (sym (ends .acts .here)) (one .1) in
+      ends .other (phase-told r row (b .shaped) (b .sound) (is-done _ (ends .acts .done)) ∙ ap (λ (c : Door). c .phase) to))
 
   -- a tick of the door
   at-tick : row .at ≡ d → isTick (row .kind) ≡ true → Onward ph d h n row z
@@ -246,27 +259,27 @@ record LitFrom (ph d h m : ℕ) (lines : List Line) : Type 0 where
   burning : Burning ph d h [] now m
   told : heardOf now rows ≡ lines
 
--- through lines that don't end its phase it loses just their ticks
+-- through lines that don't end its phase it loses just their ticks, and of the steps at its door only ticks act
 lit-through : (ph d h n : ℕ) (since lines : List Line) → Each (λ line. EndsPhase d ph line → ⊥) since → LitFrom ph d h n (since ++ lines)
-    → (m : ℕ) × LitFrom ph d h m lines × (m + ticksIn d since ≡ n)
+    → (m : ℕ) × LitFrom ph d h m lines × (m + ticksIn d since ≡ n) × Each (OnlyTicks d) since
 unfolding rowsHeard ticks
-lit-through ph d h n [] lines end l = (n, l, omega arith)
+lit-through ph d h n [] lines end l = (n, l, omega arith, end)
 lit-through ph d h n (line ∷ since) lines (step stays each) l = go (onward ph d h n (l .now) (l .burning) (one .row)) (λ m. lit-through ph d h m since lines each)
   where
     one : FirstOf (l .now) line (since ++ lines)
     one = first-of (l .now) (l .rows) line (since ++ lines) (l .told)
 
     go : Onward ph d h n (one .row) (rowOf (l .now) (one .row))
-        → ((m : ℕ) → LitFrom ph d h m (since ++ lines) → (k : ℕ) × LitFrom ph d h k lines × (k + ticksIn d since ≡ m))
-        → (m : ℕ) × LitFrom ph d h m lines × (m + ticksIn d (line ∷ since) ≡ n)
-    go (on m to sum least no-end) behind =
+        → ((m : ℕ) → LitFrom ph d h m (since ++ lines) → (k : ℕ) × LitFrom ph d h k lines × (k + ticksIn d since ≡ m) × Each (OnlyTicks d) since)
+        → (m : ℕ) × LitFrom ph d h m lines × (m + ticksIn d (line ∷ since) ≡ n) × Each (OnlyTicks d) (line ∷ since)
+    go (on m to sum least only no-end) behind =
         let rest =
         behind m
         (record { now = rowOf (l .now) (one .row) .next; rows = one .rows; burning = burns-next ph d h [] (l .now) n (l .burning) (one .row) [] m to least; told = one .rest }) in
         let same : ticks d (one .row ∷ []) ≡ ticks d (line .row ∷ []) = ap (λ (x : Line). ticks d (x .row ∷ [])) (one .first) in
         let more = ticks-more d (line .row) (rowsHeard since) in
         let left = rest .2 in
-        (rest .0, rest .1, omega arith)
+        (rest .0, rest .1, omega arith, step (subst (OnlyTicks d) (one .first) only) (rest .3))
     go (off _ _ _ ends) behind = absurd (stays (subst (EndsPhase d ph) (one .first) ends))
 
 -- ---- a light from its order on
@@ -300,9 +313,9 @@ module _ (order : Kind) (ph span : ℕ) (light : LightOf order ph span) (d : ℕ
   lit-from : (ordered : Line) (lines : List Line) → Orders d order ordered → ToldFrom (ordered ∷ lines) → (h : ℕ) × LitFrom ph d h span lines
   lit-from ordered lines o t =
       let one = first-of (t .now) (t .rows) ordered lines (t .told) in
-      let at = ap (λ (line : Line). line .row .at) (one .first) ∙ o .here in
+      let at = ap (λ (line : Line). line .row .at) (one .first) ∙ o .acts .here in
       let kind = ap (λ (line : Line). line .row .kind) (one .first) ∙ o .step in
-      let done = is-done _ (ap (λ (line : Line). line .reply .answer) (one .first) ∙ o .done) in (
+      let done = is-done _ (ap (λ (line : Line). line .reply .answer) (one .first) ∙ o .acts .done) in (
         getD (t .now .holder) d 0,
         record {
           now = rowOf (t .now) (one .row) .next;
@@ -312,15 +325,15 @@ module _ (order : Kind) (ph span : ℕ) (light : LightOf order ph span) (d : ℕ
         },
       )
 
-  -- and burns through lines that don't end its phase, for fewer ticks than its span
-  still : (lines : List Line) → ToldFrom lines → (l : StillLit d order ph lines) → ticksIn d (l .since) < span
+  -- and burns through lines that don't end its phase: ticks of its door, fewer than its span, and no other step there
+  still : (lines : List Line) → ToldFrom lines → (l : StillLit d order ph lines) → (ticksIn d (l .since) < span) × Each (OnlyTicks d) (l .since)
   unfolding ticks
   still lines t l =
       let from = lit-from (l .ordered) (l .since) (l .orders) (told-behind (l .before) (l .ordered ∷ l .since) (subst ToldFrom (l .split) t)) in
       let on = lit-through ph d (from .0) span (l .since) [] (l .burns) (subst (LitFrom ph d (from .0) span) (sym (append-nil (l .since))) (from .1)) in
       let least = on .1 .burning .more in
       let sum = on .2 in
-      omega arith
+      (omega arith, on .3)
 
   -- up to the line that ends its phase it has lost at most its span, just that where no `walk` ends it, and no `walk` ends any but green
   record Over {lines : List Line} (w : WentOut d order ph lines) : Type 0 where
@@ -338,7 +351,7 @@ module _ (order : Kind) (ph span : ℕ) (light : LightOf order ph span) (d : ℕ
       from : (h : ℕ) × LitFrom ph d h span (w .lit .since ++ (w .ending ∷ w .after))
       from = lit-from (w .lit .ordered) _ (w .lit .orders) (told-behind (w .lit .before) (w .lit .ordered ∷ (w .lit .since ++ (w .ending ∷ w .after))) (subst ToldFrom whole t))
 
-      through : (m : ℕ) × LitFrom ph d (from .0) m (w .ending ∷ w .after) × (m + ticksIn d (w .lit .since) ≡ span)
+      through : (m : ℕ) × LitFrom ph d (from .0) m (w .ending ∷ w .after) × (m + ticksIn d (w .lit .since) ≡ span) × Each (OnlyTicks d) (w .lit .since)
       through = lit-through ph d (from .0) span (w .lit .since) (w .ending ∷ w .after) (w .lit .burns) (from .1)
 
       one : FirstOf (through .1 .now) (w .ending) (w .after)
@@ -348,7 +361,7 @@ module _ (order : Kind) (ph span : ℕ) (light : LightOf order ph span) (d : ℕ
       row-is = ap (λ (line : Line). line .row) (one .first)
 
       go : Onward ph d (from .0) (through .0) (one .row) (rowOf (through .1 .now) (one .row)) → Over w
-      go (on m to sum least no-end) = absurd (no-end (subst (EndsPhase d ph) (sym (one .first)) (w .ends)))
+      go (on m to sum least only no-end) = absurd (no-end (subst (EndsPhase d ph) (sym (one .first)) (w .ends)))
       go (off most exact by-walk ends) =
           let sum = through .2 in
           let all = ticks-both d (w .lit .since) (w .ending ∷ []) in
@@ -374,11 +387,13 @@ lights-told r sh s rows =
     record {
       green-at-most = λ {d} w. over Green green greenSpan green-light d _ told w .at-most;
       green-exactly = λ {d} w. over Green green greenSpan green-light d _ told w .exactly;
-      green-on = λ {d} l. still Green green greenSpan green-light d _ told l;
+      green-on = λ {d} l. still Green green greenSpan green-light d _ told l .0;
+      green-once = λ {d} l. still Green green greenSpan green-light d _ told l .1;
       red-exactly = λ {d} w.
           let o = over Red red redSpan red-light d _ told w in
           o .exactly (λ walks. omega (arith, o .walked-green walks));
-      red-on = λ {d} l. still Red red redSpan red-light d _ told l;
+      red-on = λ {d} l. still Red red redSpan red-light d _ told l .0;
+      red-once = λ {d} l. still Red red redSpan red-light d _ told l .1;
     }
   where
     told : ToldFrom (heardOf r rows)

@@ -92,7 +92,8 @@ Idles k c = ((k ≡ Tick) × (c .phase ≡ green → ⊥) × (c .phase ≡ red �
 abbrev pub ofStep : Kind → List ℕ → ℕ
 ofStep k list = getD list (numberOfKind k) 0
 
--- "0 to 1", "1 to 2", "2 or 3 to 3", "6 or 7 to 7", "3 to 4", "4 to 9", "5 to 9", "8 to 9", "9 to 0": the phase that a step leads to, but a tick and a denial
+-- "0 to 1", "1 to 2", "3 to 4", "4 to 9", "5 to 9", "8 to 9", "9 to 0", and by 02, C-13, 2 to 3 and 6 to 7: the phase that a step leads to, but a tick and a
+-- denial
 abbrev pub phaseThen : Kind → ℕ
 phaseThen k = ofStep k (read ∷ granted ∷ green ∷ red ∷ walked ∷ 0 ∷ closed ∷ closed ∷ closed ∷ free ∷ [])
 
