@@ -212,5 +212,5 @@ lines_read()
 streams_read()
 for fault in faults:
     print("reference:", fault)
-print(f"reference: the paper's run, its 12 cases and the syslog lines, {len(faults)} faults")
+print(f"reference: the paper's run, its 12 cases, orders that come twice, held doors and the syslog lines, {len(faults)} faults")
 sys.exit(1 if faults else 0)

@@ -9,7 +9,7 @@ use mathlib.Core.List.{List, [], _∷_, _++_, map, append-nil, append-assoc}
 use borrow.Author.Tests.{eqb-true, eq-eqb, ne-eqb}
 use lib.ListN.{getD}
 use lib.Dec.{eqb}
-use Rattle.tables.specs.Tables.{orElse, andAlso}
+use Rattle.tables.specs.Tables.{andAlso}
 use Rattle.tables.proofs.Cases.{same-or-not}
 use Rattle.door.specs.declared.Door.{Door}
 use Rattle.door_does.specs.declared.Does.{Does}
@@ -182,7 +182,7 @@ module _ (held : ℕ → ℕ) (unheld : held 0 ≡ 0) (n d p why : ℕ) (c : Doo
   OfPersons k x = Account takenBy personOf openOf held n d p why c k x
 
   persons : (k : Kind) → allows k (c .phase) ≡ true → OfPersons k (effect k p why c)
-  unfolding allows effect whatBy recorded endsCard takenBy eventsAt openOf standingAt grants orElse andAlso
+  unfolding allows effect whatBy recorded endsCard takenBy eventsAt openOf standingAt grants andAlso
   persons Card ok = record { all = rw (eqb-true (c .phase) free ok) }
   persons Decide ok = go (eqb why 0) refl (eqb-true (c .phase) read ok)
     where
@@ -203,7 +203,7 @@ module _ (held : ℕ → ℕ) (unheld : held 0 ≡ 0) (n d p why : ℕ) (c : Doo
   OfDecisions k x = Account decisionBy decisionEnds grantOpen held n d p why c k x
 
   decisions : (k : Kind) → allows k (c .phase) ≡ true → OfDecisions k (effect k p why c)
-  unfolding allows effect whatBy recorded endsCard decisionBy decisionOf eventsAt grantOpen standingAt grants orElse andAlso
+  unfolding allows effect whatBy recorded endsCard decisionBy decisionOf eventsAt grantOpen standingAt grants andAlso
   decisions Card ok = record { all = rw (eqb-true (c .phase) free ok) }
   decisions Decide ok = go (eqb why 0) refl (eqb-true (c .phase) read ok)
     where

@@ -10,7 +10,7 @@ use borrow.Author.Tests.{lt-ltb, ne-eqb}
 use lib.ListN.{getD, set}
 use lib.Dec.{eqb}
 use lib.Seq.{set-set, set-getD}
-use Rattle.tables.specs.Tables.{mayBe, orElse, andAlso, mostDoors}
+use Rattle.tables.specs.Tables.{mayBe, andAlso, mostDoors}
 use Rattle.tables.proofs.Laws.{clash}
 use Rattle.door.specs.declared.Door.{Door}
 use Rattle.record.specs.declared.record.Record.{Record}
@@ -29,13 +29,12 @@ use Rattle.record.specs.Sound.{Sound}
 use Rattle.phases.specs.Kinds.{StepRow, allows, namesPerson}
 use Rattle.door_does.specs.declared.Does.the-variants.{Turns}
 use Rattle.door_does.specs.Does.{effect}
-use Rattle.record.specs.Steps.{reasonFor, Admitted, First, none, away, barred, busy, heldFor, act, doing, stepOf}
+use Rattle.record.specs.Steps.{reasonFor, Admitted, First, none, away, barred, busy, heldFor, act, stepOf}
 use Rattle.record.specs.Run.{rowOf, lastOf}
 use Rattle.tables.proofs.Cases.{same-or-not}
 use Rattle.record.proofs.Keep.{put-same, put-grant, put-shaped, at-shaped}
 use Rattle.record.proofs.Right.{reason-only}
-use Rattle.record.proofs.Laws.{allowed-does, sound-stays}
-use Rattle.record.proofs.Tells.{sound-tells}
+use Rattle.record.proofs.Laws.{step-done, sound-stays}
 use Rattle.run_events.specs.Events.{What, Denial, Passage, Lapse, RunEvent, event}
 use Rattle.card_by_card.specs.Serving.{servedAs, stepAt, cardOf, ticked, afterDecide, serviceOf}
 use Rattle.card_by_card.specs.Served.{Acts, end, then, Reads, denying, passing, lapsing, decideOf}
@@ -43,11 +42,6 @@ use Rattle.card_by_card.specs.Warden.{isPassage, placesBy}
 use Rattle.card_by_card.proofs.Cleared.{clear, cleared, clear-free, clear-shaped, clear-sound}
 
 -- ---- steps that act
-
--- a step whose numbers exist and which the door's phase allows is done
-pub step-done : (r : Record) (k : Kind) (d p : ℕ) → Shaped r → Sound r → d < r .doors → (namesPerson k ≡ true → p < r .people)
-    → allows k (getD (r .phase) d 0) ≡ true → stepOf r k d p ≡ act r d (doing r k d p)
-step-done r k d p sh s hd hp ok = allowed-does r k d p (record { tested = sound-tells r sh .back s; a-door = hd; a-person = hp; allowed = ok })
 
 -- a door put twice is put as it was put last
 put-put : (x : Record) (d : ℕ) (a b : Door) → putDoor (putDoor x d a) d b ≡ putDoor x d b
@@ -173,7 +167,7 @@ acked x d so = turn x d (door closed 0 0) so Ack freeDoor refl refl refl (λ _. 
 
 module _ (x : Record) (d : ℕ) where
   after-denial : (why held : ℕ) → StandsAt x d (door denied 0 0) → LeadsTo (putDoor x d (door denied 0 0)) (afterDecide (Denial why held) d) (putDoor x d freeDoor)
-  unfolding afterDecide allows effect orElse
+  unfolding afterDecide allows effect
   after-denial why held so =
       turn x d (door denied 0 0) so Red (door red 0 redSpan) refl refl refl
       (burning x d red-light 0 (redSpan - 1)
@@ -199,7 +193,7 @@ module _ (x : Record) (d : ℕ) where
       }))
 
   after-lapse : (h : ℕ) → StandsAt x d (door granted h 0) → LeadsTo (putDoor x d (door granted h 0)) (afterDecide Lapse d) (putDoor x d freeDoor)
-  unfolding afterDecide allows effect orElse
+  unfolding afterDecide allows effect
   after-lapse h so =
       turn x d (door granted h 0) so Green (door green h greenSpan) refl refl refl
       (burning x d green-light h (greenSpan - 1)
@@ -208,7 +202,7 @@ module _ (x : Record) (d : ℕ) where
   -- the person is put in the door's destination by `passed`, and by no other step of the service
   after-passage : (h : ℕ) → StandsAt x d (door granted h 0)
       → LeadsTo (putDoor x d (door granted h 0)) (afterDecide Passage d) (putDoor (putAt x h (getD (x .destination) d 0)) d freeDoor)
-  unfolding afterDecide allows effect orElse
+  unfolding afterDecide allows effect
   after-passage h so =
       turn x d (door granted h 0) so Green (door green h greenSpan) refl refl refl
       (λ lit-now. turn x d (door green h greenSpan) lit-now Walk (door walked h 0) refl refl refl (passes h))

@@ -23,9 +23,8 @@ use Rattle.door_does.specs.Does.{effect}
 use Rattle.record.specs.declared.steps.Step.{Step}
 use Rattle.record.specs.Steps.{reasonFor, Admitted, doing, stepOf}
 use Rattle.tables.proofs.Cases.{same-or-not, one-of}
-use Rattle.record.proofs.Tells.{sound-tells}
 use Rattle.record.proofs.Right.{admitted, admits}
-use Rattle.record.proofs.Laws.{Allowed, allowed-does, not-allowed, barred-stays, act-done, done-did, plan-stays, others-stay, places-stay, passed-moves, becomes, door-after, tick-done}
+use Rattle.record.proofs.Laws.{Allowed, step-done, not-allowed, barred-stays, act-done, done-did, plan-stays, others-stay, places-stay, passed-moves, becomes, door-after, tick-done}
 use Rattle.machines.specs.Sets.{Set, only, _∪_}
 use Rattle.machines.specs.Machines.{State, Same}
 use Rattle.machines.specs.M2.{Acceptable}
@@ -73,7 +72,7 @@ module _ (r : Record) (sh : Shaped r) (s : Sound r) (d p : ℕ) where
   -- a step that may be done is done
   pub event-done : (k : Kind) → d < r .doors → (namesPerson k ≡ true → p < r .people) → allows k (getD (r .phase) d 0) ≡ true → stepOf r k d p .answer ≡ Done
   event-done k h person may =
-      rw (allowed-does r k d p (record { tested = sound-tells r sh .back s; a-door = h; a-person = person; allowed = may })) (act-done r d (doing r k d p))
+      rw (step-done r k d p sh s h person may) (act-done r d (doing r k d p))
 
   turned : (k : Kind) → stepOf r k d p .answer ≡ Done → (c : Door) → becomes (doorOf r d) (doing r k d p) ≡ c → Turned r (stepOf r k d p .next) d c
   turned k done c to =

@@ -38,7 +38,7 @@ use Rattle.tables.proofs.Cases.{either}
 use Rattle.record.proofs.Ask.{place-is-location, way-out-safe}
 use Rattle.record.proofs.Right.{admitted}
 use Rattle.record.proofs.Tells.{sound-tells}
-use Rattle.record.proofs.Laws.{done-did, not-allowed, act-done, becomes, door-after, sound-stays, shaped-stays, plan-stays, rights-stay, run-sound, run-shaped, run-plan, run-rights, denied-first, door-told, granted-exactly, green-burns, green-expires, red-burns, red-dims}
+use Rattle.record.proofs.Laws.{done-did, step-done, not-allowed, act-done, becomes, door-after, sound-stays, shaped-stays, plan-stays, rights-stay, run-sound, run-shaped, run-plan, run-rights, denied-first, door-told, granted-exactly, green-burns, green-expires, red-burns, red-dims}
 use Rattle.verdict.specs.declared.Verdict.the-variants.{Accepted}
 use Rattle.grammar.specs.Sizes.{limit}
 use Rattle.site_lines.specs.Draft.{planIn}
@@ -50,7 +50,6 @@ use Rattle.chapter.specs.Reading.{constantsOf, stateOf}
 use Rattle.chapter.specs.Panel.{StartOfEach}
 use Rattle.demands.specs.DemandTwo.{WayAsked, WayOutside, StepIsEvent, Light, Decided, HeldIsTheGrant, SameTables, IdleTick, CountsDown}
 use Rattle.record_answers.proofs.Record.{of-record}
-use Rattle.card_by_card.proofs.Serial.{step-done}
 
 -- ---- the way outside
 

@@ -6,7 +6,7 @@ use mathlib.Core.Bool.{Bool, true, false, Bool·beq, false≢true}
 use native.Mathlib.Omega.{arith}
 use borrow.Author.Tests.{lt-ltb}
 use lib.ListN.{getD}
-use Rattle.tables.specs.Tables.{orElse, andAlso}
+use Rattle.tables.specs.Tables.{andAlso}
 use Rattle.tables.specs.Below.{allBelow}
 use Rattle.tables.proofs.Laws.{all-yes}
 use Rattle.phases.specs.declared.table.Kind.{Kind}
@@ -21,7 +21,7 @@ right-at i = Bool·beq (getD table i false) (allows (kindOf (i % 10)) (i / 10))
 
 -- the computed test
 all-right : allBelow right-at 100 ≡ true
-unfolding allBelow andAlso right-at table allows kindOf orElse
+unfolding allBelow andAlso right-at table allows kindOf
 all-right = refl
 
 same-bool : (a b : Bool) → Bool·beq a b ≡ true → a ≡ b

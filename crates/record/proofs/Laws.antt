@@ -1,6 +1,6 @@
 -- What a step does and what it leaves alone: the laws of `stepOf`.
 --     step-cases                               a step is refused or done: what holds of both holds of each step
---     done-did, allowed-does                   a step is done exactly when it may be, and does what its clause says
+--     done-did, allowed-does, step-done        a step is done exactly when it may be, and does what its clause says
 --     unsound-14, absent-11, barred-12, not-allowed
 --                                              the refusals, in their order
 --     sound-stays, shaped-stays                a sound record stays sound
@@ -129,7 +129,12 @@ pub barred-12 : (r : Record) (k : Kind) (d p : ℕ) → soundB r ≡ true → ex
 unfolding stepOf soundStep
 barred-12 r k d p s e w = rw (s, e, w)
 
--- so 12 for a step of a door that exists, which names no person and which the door's phase doesn't allow
+-- at a sound record: a step whose numbers exist and which the door's phase allows is done, ..
+pub step-done : (r : Record) (k : Kind) (d p : ℕ) → Shaped r → Sound r → d < r .doors → (namesPerson k ≡ true → p < r .people)
+    → allows k (getD (r .phase) d 0) ≡ true → stepOf r k d p ≡ act r d (doing r k d p)
+step-done r k d p sh s h person may = allowed-does r k d p (record { tested = sound-tells r sh .back s; a-door = h; a-person = person; allowed = may })
+
+-- .. and 12 is the answer where the door exists, the step names no person and the door's phase doesn't allow it
 pub not-allowed : (r : Record) (k : Kind) (d p : ℕ) → Shaped r → Sound r → d < r .doors → namesPerson k ≡ false → allows k (getD (r .phase) d 0) ≡ false
     → stepOf r k d p ≡ refused r NotAllowed (getD (r .phase) d 0)
 unfolding existAmong orElse andAlso

@@ -18,8 +18,7 @@ use Rattle.door_does.specs.declared.Does.the-variants.{Turns}
 use Rattle.door_does.specs.Does.{effect}
 use Rattle.phases.specs.declared.table.Kind.{Kind}
 use Rattle.phases.specs.declared.table.Kind.the-variants.{Green, Red, Walk, Tick}
-use Rattle.phases.specs.declared.answer.Answer.{Answer}
-use Rattle.phases.specs.declared.answer.Answer.the-variants.{Done, NoSuch, NotAllowed, TooShort, Unsound}
+use Rattle.phases.specs.declared.answer.Answer.the-variants.{Done}
 use Rattle.phases.specs.Answers.{answerNo}
 use Rattle.phases.specs.Phase.{green, walked, expired, red, dimmed, greenSpan, redSpan, lit}
 use Rattle.phases.specs.Kinds.{StepRow, numberOfKind, allows}
@@ -30,11 +29,10 @@ use Rattle.record.specs.Sound.{Sound}
 use Rattle.record.specs.Steps.{reasonFor, doing}
 use Rattle.record.specs.Run.{replyBy, rowOf, repliesOf}
 use Rattle.record.specs.Lights.{isTick, ticks, Each, end, step}
-use Rattle.record.proofs.Tells.{sound-tells}
-use Rattle.record.proofs.Laws.{done-did, allowed-does, act-done, shaped-stays, sound-stays, plan-stays, becomes, door-after, tick-done, tick-last, tick-after, burnt, Calm, is-tick, ticks-on, ticks-idle, ticks-off, Burning, burns-next, calm-row, only-walk}
+use Rattle.record.proofs.Laws.{done-did, step-done, act-done, shaped-stays, sound-stays, plan-stays, becomes, door-after, tick-done, tick-last, tick-after, burnt, Calm, is-tick, ticks-on, ticks-idle, ticks-off, Burning, burns-next, calm-row, only-walk}
 use Rattle.run_events.specs.Lines.{Line, linesOf, heardOf, rowsHeard}
 use Rattle.run_events.specs.Burning.{Orders, EndsPhase, OnlyTicks, StillLit, WentOut, ticksIn, burned, LightsTold}
-use Rattle.run_events.proofs.Steps.{heardLine, act-reply}
+use Rattle.run_events.proofs.Steps.{heardLine, act-reply, is-done}
 use Rattle.run_events.proofs.Spells.{differ}
 
 -- ---- ticks
@@ -71,13 +69,6 @@ module _ (d : ℕ) (row : StepRow) where
   other-row = ticks-off d row []
 
 -- ---- what a line tells of its step
-
-is-done : (a : Answer) → answerNo a ≡ 0 → a ≡ Done
-is-done Done e = refl
-is-done NoSuch e = absurd (omega arith)
-is-done NotAllowed e = absurd (omega arith)
-is-done TooShort e = absurd (omega arith)
-is-done Unsound e = absurd (omega arith)
 
 -- the phase told of a step that was done is its door's phase afterwards
 phase-told : (r : Record) (row : StepRow) → Shaped r → Sound r → rowOf r row .answer ≡ Done
@@ -190,8 +181,7 @@ module _ (ph d h n : ℕ) (r : Record) (b : Burning ph d h [] r n) (row : StepRo
       done : allows (row .kind) ph ≡ true → rowOf r row .answer ≡ Done
       done e =
           rw at
-          (rw (allowed-does r (row .kind) d (row .person)
-          (record { tested = sound-tells r (b .shaped) .back (b .sound); a-door = b .exists; a-person = λ named. clash named (rw (walks e .0)); allowed = rw in-phase e }))
+          (rw (step-done r (row .kind) d (row .person) (b .shaped) (b .sound) (b .exists) (λ named. clash named (rw (walks e .0))) (rw in-phase e))
           (act-done r d (doing r (row .kind) d (row .person))))
 
       opened : allows (row .kind) ph ≡ true → doorOf (rowOf r row .next) d ≡ door walked h 0

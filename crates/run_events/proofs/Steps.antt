@@ -4,6 +4,7 @@ use Prim.Native.Nat.{ℕ}
 use mathlib.Core.Path.{_≡_, refl, sym, ap, _∙_}
 use mathlib.Core.Bool.{false}
 use mathlib.Core.Logic.{⊎-elim}
+use native.Mathlib.Omega.{arith}
 use borrow.Author.Tests.{eq-eqb, ne-eqb}
 use lib.ListN.{getD}
 use lib.Dec.{eqb}
@@ -43,12 +44,16 @@ pub done-means : (r : Record) (row : StepRow) (x : Does) → meaningOf (heardLin
 unfolding meaningOf
 done-means r row x = ap (λ (reply : Reply). meaningOf (record { row = row; reply = reply })) (act-reply r (row .at) x)
 
+-- a step that is answered 0 is done, and no other
+pub is-done : (a : Answer) → answerNo a ≡ 0 → a ≡ Done
+is-done Done e = refl
+is-done NoSuch e = absurd (omega arith)
+is-done NotAllowed e = absurd (omega arith)
+is-done TooShort e = absurd (omega arith)
+is-done Unsound e = absurd (omega arith)
+
 pub not-done : (a : Answer) → (a ≡ Done → ⊥) → eqb (answerNo a) 0 ≡ false
-not-done Done no-way = absurd (no-way refl)
-not-done NoSuch no-way = refl
-not-done NotAllowed no-way = refl
-not-done TooShort no-way = refl
-not-done Unsound no-way = refl
+not-done a no-way = ne-eqb (answerNo a) 0 (λ e. no-way (is-done a e))
 
 -- the door of a step that is done, afterwards
 pub door-here : (r : Record) (k : Kind) (d p : ℕ) → Shaped r → Sound r → Allowed r k d p
