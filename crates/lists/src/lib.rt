@@ -1,5 +1,6 @@
 // Entries of lent lists: total, so that whoever reads or writes a list need not know its length.
 ghost use mathlib.Core.Path.{_≡_};
+ghost use mathlib.Core.Bool.{false};
 ghost use lib.ListN.{getD, set};
 
 // The entry of a list of numbers, and 0 past its end.
@@ -17,6 +18,16 @@ pub fn word_at(list: &[u16], at: usize) -> u16
 {
     if list.len() <= at {
         return 0;
+    }
+    list[at]
+}
+
+// The entry of a list of marks or rights, and false past its end.
+pub fn flag_at(list: &[bool], at: usize) -> bool
+    ensures { λ r. ⌜ r ≡ getD (now (list .entry)) at false ⌝ }
+{
+    if at >= list.len() {
+        return false;
     }
     list[at]
 }

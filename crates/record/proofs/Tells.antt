@@ -13,7 +13,7 @@ use Rattle.tables.specs.Tables.{Plan, rightAt, mayBe, orElse, andAlso, mostLoca
 use Rattle.tables.specs.Below.{allBelow, Tells}
 use Rattle.tables.specs.Rules.{Lawful}
 use Rattle.tables.proofs.Answers.{lawful-tells}
-use Rattle.tables.proofs.Laws.{clash, not-so as untrue, tell-lt, tell-le, tell-eq, tell-itself, tell-and, tell-cond, tell-all, tell-as}
+use Rattle.tables.proofs.Laws.{clash, not-so as untrue, tell-eq, tell-itself, tell-and, tell-cond, tell-all, tell-as, tell-unless, tell-when, tell-fails}
 use Rattle.door_fits.proofs.Fields.{FieldsOk, tell-fields}
 use Rattle.door.specs.declared.Door.{Door}
 use Rattle.record.specs.declared.record.Record.{Record}
@@ -23,32 +23,14 @@ use Rattle.record.specs.Doors.{planOf, doorOf, Shaped}
 use Rattle.granting.specs.Grants.{GrantAt, hasGrant}
 use Rattle.tables.specs.Zero.{ZeroBeyond}
 use Rattle.record.specs.Sound.{Sound}
+use Rattle.soundness.proofs.Rights.{RightOk, tell-right}
 use Rattle.soundness.specs.SoundTest.{zeroAt, zeroFrom, rightFits, rightsFit, placeFits, placesFit, doorFits, doorsFit}
 use Rattle.door_fits.specs.Fits.{isFree}
-use Rattle.soundness.specs.SoundTest.{grantFits, grantsFit, soleGrant, soleGrants, zeroBeyond, doorsSound, listsSound}
+use Rattle.soundness.specs.SoundTest.{grantFits, grantsFit, zeroBeyond, doorsSound, listsSound}
+use Rattle.sole_grants.specs.Sole.{soleGrant, soleGrants}
 use Rattle.record.specs.SoundTest.{soundB}
 use Rattle.tables.proofs.Cases.{below-or-not}
 use Rattle.granting.proofs.Granting.{no-grant, none-found}
-
--- ---- tests put together
-
--- the first test spares the second
-tell-unless : (a : Bool) {b : Bool} {N Q : Type 0} → (a ≡ false → N) → (N → a ≡ false) → Tells b Q → Tells (orElse a b) (N → Q)
-unfolding orElse
-tell-unless true f g t = record { yes = λ _ n. absurd (true≢false (g n)); back = λ _. refl }
-tell-unless false f g t = record { yes = λ e _. t .yes e; back = λ q. t .back (q (f refl)) }
-
--- a test that is negated spares the second where it fails
-tell-when : (a : Bool) {b : Bool} {Q : Type 0} → Tells b Q → Tells (orElse (not a) b) (a ≡ true → Q)
-tell-when a t = tell-unless (not a) (λ e. flip a e) (λ e. rw e) t
-  where
-    flip : (a : Bool) → not a ≡ false → a ≡ true
-    flip true e = refl
-    flip false e = absurd (true≢false e)
-
-tell-fails : (a : Bool) → Tells (not a) (a ≡ false)
-tell-fails true = record { yes = λ e. absurd (false≢true e); back = λ e. absurd (true≢false e) }
-tell-fails false = record { yes = λ _. refl; back = λ _. refl }
 
 -- what holds below the length of a list, and by default past it, holds everywhere
 tell-list : (test : ℕ → Bool) (P : ℕ → Type 0) (n : ℕ) → ((i : ℕ) → Tells (test i) (P i)) → ((i : ℕ) → n ≤ i → P i) → Tells (allBelow test n) ((i : ℕ) → P i)
@@ -64,15 +46,10 @@ tell-zero count table =
     (λ i. tell-unless (ltb i count) (ltb-false i count) (le-ltb i count) (tell-eq (getD table i 0) 0))
     (λ i h _. List·getD-eq-default table 0 h)
 
--- a right at i is one of a person to a location other than 0
-abbrev RightOk : ℕ → ℕ → List Bool → ℕ → Type 0
-RightOk people locations right i = getD right i false ≡ true → (i / mostLocations < people) × ((0 < i % mostLocations) × (i % mostLocations < locations))
-
 tell-rights : (people locations : ℕ) (right : List Bool) → Tells (rightsFit people locations right) ((i : ℕ) → RightOk people locations right i)
-unfolding rightsFit rightFits
+unfolding rightsFit
 tell-rights people locations right =
-    tell-list (rightFits people locations right) (RightOk people locations right) (length right)
-    (λ i. tell-when (getD right i false) (tell-and (tell-lt (i / mostLocations) people) (tell-and (tell-lt 0 (i % mostLocations)) (tell-lt (i % mostLocations) locations))))
+    tell-list (rightFits people locations right) (RightOk people locations right) (length right) (tell-right people locations right)
     (λ i h e. clash e (List·getD-eq-default right false h))
 
 -- the test of the tables' ends tells that they hold 0 beyond the counts

@@ -6,20 +6,26 @@
 ghost use mathlib.Core.Path.{_≡_};
 ghost use Prim.Native.Nat.{ℕ, _+_, _≤_};
 ghost use mathlib.Core.List.{List};
-ghost use lib.ListN.{length};
+ghost use mathlib.Core.Bool.{false};
+ghost use lib.ListN.{length, getD, replicate};
 ghost use lib.Seq.{sets};
-ghost use Rattle.tables.specs.Tables.{plan, mayBe};
+ghost use Rattle.tables.specs.Tables.{plan, mayBe, mostLocations};
 ghost use Rattle.tables.specs.Below.{allBelow, someBelow, leastBelow, isNothing, noPair};
 ghost use Rattle.tables.specs.Way.{unvisited, wayOut, wayOf, wayToldIn, wayWrittenIn};
 ghost use Rattle.tables.specs.Tests.{doorInRange, exitInRange, countsFit, planInRange, lacksExit, firstNoExit};
-ghost use Rattle.tables.specs.Tests.{strays, firstStray, joins, lacksDoor, firstNoDoor};
-ghost use Rattle.tables.specs.Tests.{lacksRight, firstNoRight, letsIn, shutOut, firstShutOut, lawfulB};
+ghost use Rattle.tables.specs.Tests.{strays, firstStray, joins, firstNoDoor};
+ghost use Rattle.tables.specs.Tests.{lacksRight, firstNoRight, firstShutOut, lawfulB};
+ghost use Rattle.rules.specs.Marks.{mostMarks, isFirst, hasNoFirst};
 use findings::Found;
 use findings::RightFound;
 use findings::WayTold;
 use lists::byte_at;
+use lists::flag_at;
 use tables::MOST_DOORS;
 use tables::MOST_LOCATIONS;
+
+// As many marks as a byte has values, so that every entry of a table has one.
+const MOST_MARKS: usize = 256;
 
 // Whether a person may be in a location.
 pub fn may_be(right: &[bool], person: usize, location: usize) -> bool
@@ -244,50 +250,38 @@ pub fn first_stray(locations: usize, exit: &[u8]) -> Found
     Found::Nothing
 }
 
-// Whether a door is from one location to another.
-fn joins<'a>(origin: &'a [u8], destination: &'a [u8], from: usize, to: usize, door: usize) -> bool
-    ensures { λ r. ⌜ r ≡ joins (now (origin .entry)) (now (destination .entry)) from to door ⌝ }
+// The marks before any location is marked.
+fn no_marks() -> [bool; MOST_MARKS]
+    ensures { λ r. ⌜ r ≡ replicate mostMarks false ⌝ }
 {
-    let start = byte_at(origin, door) as usize;
-    if start != from {
-        return false;
-    }
-    let end = byte_at(destination, door) as usize;
-    end == to
+    [false; MOST_MARKS]
 }
 
-// Whether there is a door from one location to another.
-fn joined<'a>(doors: usize, origin: &'a [u8], destination: &'a [u8], from: usize, to: usize) -> bool
-    ensures { λ r. ⌜ r ≡ someBelow (joins (now (origin .entry)) (now (destination .entry)) from to) doors ⌝ }
-{
-    let mut door = 0;
-    while door < doors {
-        if joins(origin, destination, from, to, door) {
-            return true;
-        }
-        door += 1;
-    }
-    false
-}
-
-// Rule 8: whether a location other than 0 has no door to its exit.
-fn lacks_door<'a>(
+// Rule 8: marks each location that has a door to its exit.
+fn mark_led<'a>(
     doors: usize,
     origin: &'a [u8],
     destination: &'a [u8],
     exit: &'a [u8],
-    location: usize,
-) -> bool
-    ensures { λ r. ⌜ r ≡ lacksDoor doors (now (origin .entry)) (now (destination .entry)) (now (exit .entry)) location ⌝ }
+) -> [bool; MOST_MARKS]
+    ensures { λ r. ⌜ ((l : ℕ) → getD r l false ≡ someBelow (joins (now (origin .entry)) (now (destination .entry)) l (getD (now (exit .entry)) l 0)) doors) ⌝ }
 {
-    if location == 0 {
-        return false;
+    let mut led = no_marks();
+    let mut door = 0;
+    while door < doors {
+        let at = door;
+        door += 1;
+        let from = byte_at(origin, at) as usize;
+        let to = byte_at(destination, at);
+        if byte_at(exit, from) == to {
+            led[from] = true;
+        }
     }
-    let to = byte_at(exit, location) as usize;
-    !joined(doors, origin, destination, location, to)
+    led
 }
 
-// Rule 8: the smallest location that has no door to its exit.
+// Rule 8: the smallest location that has no door to its exit: the doors are walked once, and the locations are looked through as for
+// rule 6.
 pub fn first_no_door<'a>(
     locations: usize,
     doors: usize,
@@ -297,14 +291,8 @@ pub fn first_no_door<'a>(
 ) -> Found
     ensures { λ r. ⌜ ((people : ℕ) → r ≡ firstNoDoor (plan people locations doors (now (origin .entry)) (now (destination .entry)) (now (exit .entry)))) ⌝ }
 {
-    let mut location = 0;
-    while location < locations {
-        if lacks_door(doors, origin, destination, exit, location) {
-            return Found::At(location);
-        }
-        location += 1;
-    }
-    Found::Nothing
+    let led = mark_led(doors, origin, destination, exit);
+    first_no_exit(locations, &led)
 }
 
 // Rule 9: whether a person has a right to a location other than 0, but not to its exit.
@@ -381,55 +369,66 @@ pub fn first_no_right<'a>(
     RightFound::At { person, location }
 }
 
-// Whether a door leads a person from outside to a location that they may be in.
-fn lets_in<'a>(
-    origin: &'a [u8],
-    destination: &'a [u8],
-    right: &'a [bool],
-    person: usize,
-    door: usize,
-) -> bool
-    ensures { λ r. ⌜ r ≡ letsIn (now (origin .entry)) (now (destination .entry)) (now (right .entry)) person door ⌝ }
+// Rule 10: marks each location to which a door leads from outside.
+fn mark_first<'a>(doors: usize, origin: &'a [u8], destination: &'a [u8]) -> [bool; MOST_MARKS]
+    ensures { λ r. ⌜ ((l : ℕ) → getD r l false ≡ someBelow (joins (now (origin .entry)) (now (destination .entry)) 0 l) doors) ⌝ }
 {
-    let start = byte_at(origin, door);
-    if start != 0 {
-        return false;
-    }
-    let to = byte_at(destination, door) as usize;
-    may_be(right, person, to)
-}
-
-// Whether some door lets a person in.
-fn has_first<'a>(
-    doors: usize,
-    origin: &'a [u8],
-    destination: &'a [u8],
-    right: &'a [bool],
-    person: usize,
-) -> bool
-    ensures { λ r. ⌜ r ≡ someBelow (letsIn (now (origin .entry)) (now (destination .entry)) (now (right .entry)) person) doors ⌝ }
-{
+    let mut first = no_marks();
     let mut door = 0;
     while door < doors {
-        if lets_in(origin, destination, right, person, door) {
+        let at = door;
+        door += 1;
+        let to = byte_at(destination, at) as usize;
+        if byte_at(origin, at) == 0 {
+            first[to] = true;
+        }
+    }
+    first
+}
+
+// Whether a location is a first one of a person. `first` marks those to which a door leads from outside.
+fn is_first<'a>(first: &'a [bool], right: &'a [bool], person: usize, location: usize) -> bool
+    ensures { λ r. ⌜ r ≡ isFirst (now (first .entry)) (now (right .entry)) person location ⌝ }
+{
+    if !flag_at(first, location) {
+        return false;
+    }
+    may_be(right, person, location)
+}
+
+// Whether a person has a first location.
+fn has_first<'a>(first: &'a [bool], right: &'a [bool], person: usize) -> bool
+    ensures { λ r. ⌜ r ≡ someBelow (isFirst (now (first .entry)) (now (right .entry)) person) mostLocations ⌝ }
+{
+    let mut location = 0;
+    while location < MOST_LOCATIONS {
+        if is_first(first, right, person, location) {
             return true;
         }
-        door += 1;
+        location += 1;
     }
     false
 }
 
 // Rule 10: whether a person has no first location from outside.
-fn shut_out<'a>(
-    doors: usize,
-    origin: &'a [u8],
-    destination: &'a [u8],
-    right: &'a [bool],
-    person: usize,
-) -> bool
-    ensures { λ r. ⌜ r ≡ shutOut doors (now (origin .entry)) (now (destination .entry)) (now (right .entry)) person ⌝ }
+fn shut_out<'a>(first: &'a [bool], right: &'a [bool], person: usize) -> bool
+    ensures { λ r. ⌜ r ≡ hasNoFirst (now (first .entry)) (now (right .entry)) person ⌝ }
 {
-    !has_first(doors, origin, destination, right, person)
+    !has_first(first, right, person)
+}
+
+// Rule 10: the smallest person who has none of the marked locations for a first one.
+fn first_without<'a>(people: usize, first: &'a [bool], right: &'a [bool]) -> Found
+    ensures { λ r. ⌜ r ≡ leastBelow (hasNoFirst (now (first .entry)) (now (right .entry))) people ⌝ }
+{
+    let mut person = 0;
+    while person < people {
+        if shut_out(first, right, person) {
+            return Found::At(person);
+        }
+        person += 1;
+    }
+    Found::Nothing
 }
 
 // Rule 10: the smallest person who has no first location from outside.
@@ -442,14 +441,8 @@ pub fn first_shut_out<'a>(
 ) -> Found
     ensures { λ r. ⌜ ((locations : ℕ) (exit : List ℕ) → r ≡ firstShutOut (plan people locations doors (now (origin .entry)) (now (destination .entry)) exit) (now (right .entry))) ⌝ }
 {
-    let mut person = 0;
-    while person < people {
-        if shut_out(doors, origin, destination, right, person) {
-            return Found::At(person);
-        }
-        person += 1;
-    }
-    Found::Nothing
+    let first = mark_first(doors, origin, destination);
+    first_without(people, &first, right)
 }
 
 // Whether a search found nothing.

@@ -1,5 +1,5 @@
 -- What the code computes of lent lists to tell whether a record is sound (01, "The record").
-use Prim.Native.Nat.{ℕ, _/_, _%_}
+use Prim.Native.Nat.{ℕ, _+_, _/_, _%_}
 use mathlib.Core.Bool.{Bool, false, not, cond}
 use mathlib.Core.List.{List}
 use lib.ListN.{length, getD}
@@ -10,7 +10,7 @@ use Rattle.tables.specs.Tests.{lawfulB}
 use Rattle.phases.specs.Phase.{grants}
 use Rattle.door.specs.Door.{doorIn}
 use Rattle.door_fits.specs.Fits.{fieldsFit, isFree}
-use Rattle.granting.specs.Grants.{hasGrant}
+use Rattle.sole_grants.specs.Sole.{soleGrants}
 
 -- the entries of a table from `count` on are 0
 unfoldable pub zeroAt : ℕ → List ℕ → ℕ → Bool
@@ -27,6 +27,17 @@ rightFits people locations right i =
 
 unfoldable pub rightsFit : ℕ → ℕ → List Bool → Bool
 rightsFit people locations right = allBelow (rightFits people locations right) (length right)
+
+-- none of the rights from `from` on, up to `to`, is given
+unfoldable pub notGiven : ℕ → List Bool → ℕ → Bool
+notGiven from right i = orElse (ltb i from) (not (getD right i false))
+
+unfoldable pub noneGiven : ℕ → ℕ → List Bool → Bool
+noneGiven from to right = allBelow (notGiven from right) to
+
+-- of the rights from `row` on, one person's, none is to location 0 and none beyond the locations
+unfoldable pub rowFits : ℕ → List Bool → ℕ → Bool
+rowFits locations right row = andAlso (not (getD right row false)) (noneGiven (row + locations) (row + mostLocations) right)
 
 -- a person is where they may be, and beyond the people stands 0
 unfoldable pub placeFits : ℕ → List Bool → List ℕ → ℕ → Bool
@@ -51,13 +62,6 @@ grantFits site right place phase holder d =
 
 unfoldable pub grantsFit : Plan → List Bool → List ℕ → List ℕ → List ℕ → Bool
 grantsFit site right place phase holder = allBelow (grantFits site right place phase holder) (site .doors)
-
--- no door before d holds a grant of the same person
-unfoldable pub soleGrant : List ℕ → List ℕ → ℕ → Bool
-soleGrant phase holder d = orElse (not (grants (getD phase d 0))) (not (hasGrant d phase holder (getD holder d 0)))
-
-unfoldable pub soleGrants : ℕ → List ℕ → List ℕ → Bool
-soleGrants doors phase holder = allBelow (soleGrant phase holder) doors
 
 -- the tables hold 0 beyond the counts, and so do location 0's own exit and rights
 unfoldable pub zeroBeyond : Plan → List Bool → Bool

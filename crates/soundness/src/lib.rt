@@ -2,20 +2,21 @@
 // lists that it speaks of, which are never copied.
 ghost use mathlib.Core.Path.{_≡_};
 ghost use mathlib.Core.List.{List};
-ghost use Prim.Native.Nat.{ℕ};
+ghost use Prim.Native.Nat.{ℕ, _<_};
+ghost use lib.ListN.{length};
 ghost use Rattle.tables.specs.Tables.{plan};
 ghost use Rattle.door_fits.specs.Fits.{isFree};
-ghost use Rattle.soundness.specs.SoundTest.{zeroAt, zeroFrom, rightFits, rightsFit, placeFits, placesFit};
-ghost use Rattle.soundness.specs.SoundTest.{doorFits, doorsFit, grantFits, grantsFit, soleGrant, soleGrants};
+ghost use Rattle.soundness.specs.SoundTest.{zeroAt, zeroFrom, noneGiven, rowFits, rightsFit, placeFits, placesFit};
+ghost use Rattle.soundness.specs.SoundTest.{doorFits, doorsFit, grantFits, grantsFit};
 ghost use Rattle.soundness.specs.SoundTest.{zeroBeyond, doorsSound, listsSound};
 use door::Door;
 use door_fits::fits;
 use door_fits::grants;
-use findings::Found;
-use granting::grant_of;
 use lists::byte_at;
+use lists::flag_at;
 use lists::word_at;
 use phases::phase::Phase;
+use sole_grants::sole_grants;
 use tables::MOST_DOORS;
 use tables::MOST_LOCATIONS;
 
@@ -42,35 +43,49 @@ fn zero_from(count: usize, table: &[u8]) -> bool
     true
 }
 
-// A right is one of a person to a location other than 0.
-fn right_fits(people: usize, locations: usize, right: &[bool], at: usize) -> bool
-    ensures { λ r. ⌜ r ≡ rightFits people locations (now (right .entry)) at ⌝ }
+// None of the rights from one entry on, up to another, is given.
+fn none_given(right: &[bool], from: usize, to: usize) -> bool
+    ensures { λ r. ⌜ r ≡ noneGiven from to (now (right .entry)) ⌝ }
 {
-    if right.len() <= at {
-        return true;
-    }
-    if !right[at] {
-        return true;
-    }
-    if people <= at / MOST_LOCATIONS {
-        return false;
-    }
-    let location = at % MOST_LOCATIONS;
-    if location == 0 {
-        return false;
-    }
-    location < locations
-}
-
-fn rights_fit(people: usize, locations: usize, right: &[bool]) -> bool
-    ensures { λ r. ⌜ r ≡ rightsFit people locations (now (right .entry)) ⌝ }
-{
-    let mut at = 0;
-    while at < right.len() {
-        if !right_fits(people, locations, right, at) {
+    let mut at = from;
+    while at < to {
+        if flag_at(right, at) {
             return false;
         }
         at += 1;
+    }
+    true
+}
+
+// A person has no right to location 0, and none beyond the locations. Their other rights need no look here.
+fn row_fits(locations: usize, right: &[bool], row: usize) -> bool
+    requires { ⌜ row < length (now right) ⌝ }
+    ensures { λ r. ⌜ r ≡ rowFits locations (now (right .entry)) row ⌝ }
+{
+    if flag_at(right, row) {
+        return false;
+    }
+    if MOST_LOCATIONS <= locations {
+        return true;
+    }
+    none_given(right, row + locations, row + MOST_LOCATIONS)
+}
+
+// A right is one of a person to a location other than 0.
+fn rights_fit(people: usize, locations: usize, right: &[bool]) -> bool
+    ensures { λ r. ⌜ r ≡ rightsFit people locations (now (right .entry)) ⌝ }
+{
+    let mut left = people;
+    let mut row = 0;
+    while row < right.len() {
+        if left == 0 {
+            return none_given(right, row, right.len());
+        }
+        if !row_fits(locations, right, row) {
+            return false;
+        }
+        left -= 1;
+        row += MOST_LOCATIONS;
     }
     true
 }
@@ -185,32 +200,6 @@ fn grants_fit<'a>(
     let mut door = 0;
     while door < doors {
         if !grant_fits(origin, destination, right, place, phase, holder, door) {
-            return false;
-        }
-        door += 1;
-    }
-    true
-}
-
-// No door before this one holds a grant of the same person.
-fn sole_grant<'a>(phase: &'a [u8], holder: &'a [u16], door: usize) -> bool
-    ensures { λ r. ⌜ r ≡ soleGrant (now (phase .entry)) (now (holder .entry)) door ⌝ }
-{
-    if !grants(byte_at(phase, door)) {
-        return true;
-    }
-    match grant_of(door, phase, holder, word_at(holder, door) as usize) {
-        Found::At(_) => false,
-        Found::Nothing => true,
-    }
-}
-
-fn sole_grants<'a>(doors: usize, phase: &'a [u8], holder: &'a [u16]) -> bool
-    ensures { λ r. ⌜ r ≡ soleGrants doors (now (phase .entry)) (now (holder .entry)) ⌝ }
-{
-    let mut door = 0;
-    while door < doors {
-        if !sole_grant(phase, holder, door) {
             return false;
         }
         door += 1;

@@ -203,15 +203,41 @@ pub tell-all : (test : ℕ → Bool) (P : ℕ → Type 0) (n : ℕ) → ((k : �
 tell-all test P n t =
     record { yes = λ e k h. t k .yes (all-yes test n e k h); back = λ all. all-back test n (λ k h. t k .back (all k h)) }
 
--- the same facts in other words
 -- a choice between two tests
 pub tell-cond : (a : Bool) {x y : Bool} {N P Q : Type 0} → (a ≡ true → N) → (N → a ≡ true) → Tells x P → Tells y Q
     → Tells (cond a x y) ((N → P) × ((N → ⊥) → Q))
 tell-cond true f g s t = record { yes = λ e. (λ _. s .yes e, λ n. absurd (n (f refl))); back = λ p. s .back (p .0 (f refl)) }
 tell-cond false f g s t = record { yes = λ e. (λ n. absurd (false≢true (g n)), λ _. t .yes e); back = λ p. t .back (p .1 (λ n. false≢true (g n))) }
 
+-- the same facts in other words
 pub tell-as : {b : Bool} {P Q : Type 0} → (P → Q) → (Q → P) → Tells b P → Tells b Q
 tell-as f g t = record { yes = λ e. f (t .yes e); back = λ q. t .back (g q) }
+
+-- the first test spares the second
+pub tell-unless : (a : Bool) {b : Bool} {N Q : Type 0} → (a ≡ false → N) → (N → a ≡ false) → Tells b Q → Tells (orElse a b) (N → Q)
+unfolding orElse
+tell-unless true f g t = record { yes = λ _ n. absurd (true≢false (g n)); back = λ _. refl }
+tell-unless false f g t = record { yes = λ e _. t .yes e; back = λ q. t .back (q (f refl)) }
+
+-- a test that is negated spares the second where it fails
+pub tell-when : (a : Bool) {b : Bool} {Q : Type 0} → Tells b Q → Tells (orElse (not a) b) (a ≡ true → Q)
+tell-when a t = tell-unless (not a) (λ e. flip a e) (λ e. rw e) t
+  where
+    flip : (a : Bool) → not a ≡ false → a ≡ true
+    flip true e = refl
+    flip false e = absurd (true≢false e)
+
+pub tell-fails : (a : Bool) → Tells (not a) (a ≡ false)
+tell-fails true = record { yes = λ e. absurd (false≢true e); back = λ e. absurd (true≢false e) }
+tell-fails false = record { yes = λ _. refl; back = λ _. refl }
+
+-- two tests that tell the same are the same
+pub tell-same : {a b : Bool} {P : Type 0} → Tells a P → Tells b P → a ≡ b
+tell-same {a} {b} s t = go b (λ e. s .back (t .yes e)) (λ e. not-so a (λ x. clash (t .back (s .yes x)) e))
+  where
+    go : (b : Bool) → (b ≡ true → a ≡ true) → (b ≡ false → a ≡ false) → a ≡ b
+    go true f g = f refl
+    go false f g = g refl
 
 -- ---- what a search answers
 

@@ -1,6 +1,6 @@
 -- `shut_out` meets its contract. Assumes nothing.
 use borrow.Author.Needs.{needs}
-use Rattle.tables.specs.Tests.{shutOut}
+use Rattle.rules.specs.Marks.{hasNoFirst}
 use Rattle.rules.proofs.shut_out.Statement.{statement}
 use Rattle.rules.proofs.shut_out.Tie as tie
 
@@ -8,7 +8,7 @@ has-first-requires : tie.Need-has-first-requires
 has-first-requires c κs = search needs
 
 returns : tie.Need-returns
-unfolding shutOut
+unfolding hasNoFirst
 returns c = simp (c .has-first .ensures)
 
 pub shut-out-spec : {M : Type 1} → statement M

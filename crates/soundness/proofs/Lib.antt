@@ -1,0 +1,2 @@
+-- `Rights`: the rights beyond the counts.
+pub mod Rights
