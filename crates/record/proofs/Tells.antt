@@ -20,17 +20,16 @@ use Rattle.record.specs.declared.record.Record.{Record}
 use Rattle.phases.specs.Phase.{closed, keeps, grants, lit, leastCount, mostCount}
 use Rattle.door.specs.Door.{freeDoor}
 use Rattle.record.specs.Doors.{planOf, doorOf, Shaped}
-use Rattle.granting.specs.Grants.{GrantAt, hasGrant}
 use Rattle.tables.specs.Zero.{ZeroBeyond}
 use Rattle.record.specs.Sound.{Sound}
 use Rattle.soundness.proofs.Rights.{RightOk, tell-right}
 use Rattle.soundness.specs.SoundTest.{zeroAt, zeroFrom, rightFits, rightsFit, placeFits, placesFit, doorFits, doorsFit}
 use Rattle.door_fits.specs.Fits.{isFree}
 use Rattle.soundness.specs.SoundTest.{grantFits, grantsFit, zeroBeyond, doorsSound, listsSound}
-use Rattle.sole_grants.specs.Sole.{soleGrant, soleGrants}
+use Rattle.sole_grants.specs.Sole.{NoTwo}
+use Rattle.sole_grants.proofs.Sole.{sole-tells}
 use Rattle.record.specs.SoundTest.{soundB}
-use Rattle.tables.proofs.Cases.{below-or-not}
-use Rattle.granting.proofs.Granting.{no-grant, none-found}
+use Rattle.tables.proofs.Cases.{below-or-not, same-or-not}
 
 -- what holds below the length of a list, and by default past it, holds everywhere
 tell-list : (test : ℕ → Bool) (P : ℕ → Type 0) (n : ℕ) → ((i : ℕ) → Tells (test i) (P i)) → ((i : ℕ) → n ≤ i → P i) → Tells (allBelow test n) ((i : ℕ) → P i)
@@ -139,25 +138,6 @@ tell-grants r =
     tell-all (grantFits (planOf r) (r .right) (r .place) (r .phase) (r .holder)) (GrantOk r) (r .doors)
     (λ d. tell-when (grants (getD (r .phase) d 0)) (tell-and (tell-eq _ (getD (r .origin) d 0)) (tell-itself _)))
 
-abbrev pub SoleOk : List ℕ → List ℕ → ℕ → Type 0
-SoleOk phase holder d = grants (getD phase d 0) ≡ true → hasGrant d phase holder (getD holder d 0) ≡ false
-
-pub tell-sole : (doors : ℕ) (phase holder : List ℕ) → Tells (soleGrants doors phase holder) ((d : ℕ) → d < doors → SoleOk phase holder d)
-unfolding soleGrants soleGrant
-tell-sole doors phase holder =
-    tell-all (soleGrant phase holder) (SoleOk phase holder) doors (λ d. tell-when (grants (getD phase d 0)) (tell-fails _))
-
--- no two doors hold a grant of one person
-pub sole-alone : (doors : ℕ) (phase holder : List ℕ) → ((d : ℕ) → d < doors → SoleOk phase holder d) → (d : ℕ) → d < doors
-    → grants (getD phase d 0) ≡ true → (e : ℕ) → (e ≡ d → ⊥) → GrantAt doors phase holder (getD holder d 0) e → ⊥
-sole-alone doors phase holder sole d h g e ne other =
-    ⊎-elim
-    (λ lt. no-grant d phase holder (getD holder d 0) (sole d h g) e (record { exists = lt; holds = other .holds; person = other .person }))
-    (λ le.
-    no-grant e phase holder (getD holder e 0) (sole e (other .exists) (other .holds)) d
-    (record { exists = omega arith; holds = g; person = sym (other .person) }))
-    (below-or-not e d)
-
 -- ---- the whole
 
 -- what the tests tell, each
@@ -167,7 +147,7 @@ record Parts (r : Record) : Type 0 where
   places : (p : ℕ) → PlaceOk (r .people) (r .right) (r .place) p
   doors : (d : ℕ) → AtDoor r d
   grant : (d : ℕ) → d < r .doors → GrantOk r d
-  sole : (d : ℕ) → d < r .doors → SoleOk (r .phase) (r .holder) d
+  sole : NoTwo (r .doors) (r .phase) (r .holder)
 
 tell-parts : (r : Record) → Shaped r → Tells (soundB r) (Parts r)
 unfolding soundB listsSound doorsSound
@@ -178,7 +158,7 @@ tell-parts r sh =
     (tell-and (lawful-tells (length (r .place)) (planOf r) (r .right))
     (tell-and (ends-tell (planOf r) (r .right))
     (tell-and (tell-places (r .people) (r .right) (r .place))
-    (tell-and (tell-doors r sh) (tell-and (tell-grants r) (tell-sole (r .doors) (r .phase) (r .holder)))))))
+    (tell-and (tell-doors r sh) (tell-and (tell-grants r) (sole-tells (r .doors) (r .phase) (r .holder)))))))
 
 parts-sound : (r : Record) → Parts r → Sound r
 parts-sound r t =
@@ -196,7 +176,7 @@ parts-sound r t =
             nobody = λ e. f .1 .0 .1 (λ k. false≢true (sym e ∙ k));
             least = f .1 .1 .0;
             most = f .1 .1 .1;
-            alone = sole-alone (r .doors) (r .phase) (r .holder) (t .sole) d h;
+            alone = λ g e ne other. ne (t .sole _ e d other (record { exists = h; holds = g; person = refl }));
             starts = λ g. t .grant d h g .0;
             may = λ g. t .grant d h g .1;
           };
@@ -219,12 +199,11 @@ sound-parts r s =
     fields : (d : ℕ) → d < r .doors → FieldsOk (r .people) (doorOf r d)
     fields d h = let o = s .doors d h in (o .known, ((o .held, λ k. o .nobody (untrue _ k)), (o .least, o .most)))
 
-    sole : (d : ℕ) → d < r .doors → SoleOk (r .phase) (r .holder) d
-    sole d h g =
-        none-found d (r .phase) (r .holder) (getD (r .holder) d 0)
-        (λ e o.
-        let lt = o .exists in
-        s .doors d h .alone g e (λ is. omega arith) (record { exists = omega arith; holds = o .holds; person = o .person }))
+    sole : NoTwo (r .doors) (r .phase) (r .holder)
+    sole p d e here there =
+        ⊎-elim (λ is. is)
+        (λ ne. absurd (s .doors d (here .exists) .alone (here .holds) e (λ is. ne (sym is)) (record { exists = there .exists; holds = there .holds; person = there .person ∙ sym (here .person) })))
+        (same-or-not d e)
 
 -- the test tells soundness
 pub sound-tells : (r : Record) → Shaped r → Tells (soundB r) (Sound r)

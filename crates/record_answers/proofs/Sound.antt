@@ -13,6 +13,7 @@ use Rattle.granting.specs.Reasons.{firstReason, heldWith}
 use Rattle.phases.specs.Answers.{reasonBusy}
 use Rattle.soundness.specs.SoundTest.{listsSound}
 use Rattle.granting.proofs.Granting.{found-grant, found-first, first-found, no-grant, no-door}
+use Rattle.sole_grants.proofs.Sole.{sole-tells}
 use Rattle.record.specs.Doors.{recordOf, Shaped}
 use Rattle.record.specs.Sound.{Sound}
 use Rattle.record.specs.SoundTest.{soundB}
@@ -53,4 +54,5 @@ unfolding soundB
 lists-tell site right place phase holder count sh = sound-tells (recordOf site right place phase holder count) sh
 
 pub of-sound : SoundAnswers
-of-sound = record { grant-of = grant-told; first-reason = reason-told; held-with = held-told; lists-sound = lists-tell }
+of-sound =
+    record { grant-of = grant-told; first-reason = reason-told; held-with = held-told; sole-grants = sole-tells; lists-sound = lists-tell }

@@ -10,6 +10,7 @@ sound-unique =
       grant-of = λ n phase holder p. alone;
       first-reason = λ doors origin destination right place phase holder d p x y a b. a 0 0 [] ∙ sym (b 0 0 []);
       held-with = λ why n phase holder p. alone;
+      sole-grants = λ n phase holder. alone;
       lists-sound = λ site right place phase holder count. alone;
     }
 

@@ -1,5 +1,5 @@
--- Demand 1 of the record: each field is a public function of the crates `granting`, `soundness`, `record`, `lending`, `step_list` or
--- `questions`, and says what follows of the definition that its promise cites.
+-- Demand 1 of the record: each field is a public function of the crates `granting`, `sole_grants`, `soundness`, `record`, `lending`,
+-- `step_list` or `questions`, and says what follows of the definition that its promise cites.
 use Prim.Native.Nat.{ℕ, _≤_, _<_}
 use mathlib.Core.Path.{_≡_}
 use mathlib.Core.Bool.{Bool, true}
@@ -28,6 +28,7 @@ use Rattle.phases.specs.Phase.{green, denied, red}
 use Rattle.record.specs.Doors.{recordOf, freshRecord, Shaped}
 use Rattle.granting.specs.Grants.{GrantAt, grantOf}
 use Rattle.granting.specs.Reasons.{firstReason, heldWith}
+use Rattle.sole_grants.specs.Sole.{NoTwo, soleGrants}
 use Rattle.soundness.specs.SoundTest.{listsSound}
 use Rattle.phases.specs.Kinds.{StepRow, kindOf, allows, namesPerson}
 use Rattle.tables.specs.Zero.{ZeroBeyond}
@@ -40,7 +41,7 @@ use Rattle.record.specs.Questions.{askedNo, unlessRefused, placeOf, grantedTo, 
 use Rattle.numbers.specs.Telling.{Order, done, _unless_then_, NumberBy}
 use Rattle.record_answers.specs.Lending.{Lent, LentRows, LentIsSteps, LentIsRun}
 
--- ---- crates `granting` and `soundness`
+-- ---- crates `granting`, `sole_grants` and `soundness`
 
 -- door d holds a grant of the person, and no door before it does
 pub record FirstGrant (n : ℕ) (phase holder : List ℕ) (p d : ℕ) : Type 0 where
@@ -61,6 +62,8 @@ pub record SoundAnswers : Type 0 where
       → ((d : ℕ) → FirstGrant n phase holder p d → heldWith reasonBusy n phase holder p ≡ d)
       × (((d : ℕ) → GrantAt n phase holder p d → ⊥) → heldWith reasonBusy n phase holder p ≡ 0)
       × ((why ≡ reasonBusy → ⊥) → heldWith why n phase holder p ≡ 0)
+  -- "no person has two": of no person two doors hold a grant
+  pub sole-grants : (n : ℕ) (phase holder : List ℕ) → Tells (soleGrants n phase holder) (NoTwo n phase holder)
   -- lists are told sound exactly when the record that has them is
   pub lists-sound : (site : Plan) (right : List Bool) (place phase holder count : List ℕ) → Shaped (recordOf site right place phase holder count)
       → Tells (listsSound site right place phase holder count) (Sound (recordOf site right place phase holder count))

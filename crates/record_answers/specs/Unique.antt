@@ -1,5 +1,5 @@
--- Answers of the functions of the crates `granting`, `soundness`, `record`, `lending`, `step_list` and `questions` are unique: whatever a
--- promise allows, the answer and what each lent list and the lent record hold at exit, is one thing. The promise stands as in the
+-- Answers of the functions of the crates `granting`, `sole_grants`, `soundness`, `record`, `lending`, `step_list` and `questions` are
+-- unique: whatever a promise allows, the answer and what each lent list and the lent record hold at exit, is one thing. The promise stands as in the
 -- function's `ensures`.
 use Prim.Native.Nat.{ℕ}
 use mathlib.Core.Path.{_≡_}
@@ -25,6 +25,7 @@ use Rattle.asked_grant.specs.{grantTold, grantNo}
 use Rattle.asked_way.specs.{lengthTold, wayNo}
 use Rattle.granting.specs.Grants.{grantOf}
 use Rattle.granting.specs.Reasons.{firstReason, heldWith}
+use Rattle.sole_grants.specs.Sole.{soleGrants}
 use Rattle.soundness.specs.SoundTest.{listsSound}
 use Rattle.record.specs.Doors.{freshRecord}
 use Rattle.phases.specs.Kinds.{kindOf}
@@ -40,6 +41,7 @@ pub record SoundUnique : Type 0 where
       → Unique
       (λ (x : ℕ). (people locations : ℕ) (exit : List ℕ) → x ≡ firstReason (plan people locations doors origin destination exit) right place phase holder d p)
   pub held-with : (why n : ℕ) (phase holder : List ℕ) (p : ℕ) → Unique (λ (x : ℕ). x ≡ heldWith why n phase holder p)
+  pub sole-grants : (n : ℕ) (phase holder : List ℕ) → Unique (λ (x : Bool). x ≡ soleGrants n phase holder)
   pub lists-sound : (site : Plan) (right : List Bool) (place phase holder count : List ℕ)
       → Unique (λ (x : Bool). x ≡ listsSound site right place phase holder count)
 

@@ -20,11 +20,11 @@ use Rattle.table_answers.specs.Answers.{PutTells, ReadTells, TablesAnswe
 
 -- ---- lent lists
 
-pub read-there : (list : List ℕ) (at : ℕ) → ReadTells list at (getD list at 0)
-read-there list at =
+pub read-there : {A : Type 0} (nothing : A) (list : List A) (at : ℕ) → ReadTells nothing list at (getD list at nothing)
+read-there {A} nothing list at =
     record {
-      there = λ before x after is long. ap (λ (l : List ℕ). getD l at 0) is ∙ getD-at before x after 0 at long;
-      past = λ h. List·getD-eq-default list 0 h;
+      there = λ before x after is long. ap (λ (l : List A). getD l at nothing) is ∙ getD-at before x after nothing at long;
+      past = λ h. List·getD-eq-default list nothing h;
     }
 
 put-there : (list : List ℕ) (at n : ℕ) → PutTells list at n
@@ -37,7 +37,7 @@ put-there list at n =
     }
 
 pub of-tables : TablesAnswers
-of-tables = record { byte-at = read-there; word-at = read-there; put-byte = put-there; put-word = put-there }
+of-tables = record { byte-at = read-there 0; word-at = read-there 0; flag-at = read-there false; put-byte = put-there; put-word = put-there }
 
 -- ---- the rules of tables
 

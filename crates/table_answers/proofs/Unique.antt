@@ -7,7 +7,13 @@ use Rattle.table_answers.specs.Unique.{TablesUnique, RulesUnique, DoorUn
 
 pub tables-unique : TablesUnique
 tables-unique =
-    record { byte-at = λ list at. alone; word-at = λ list at. alone; put-byte = λ list at n. alone; put-word = λ list at n. alone }
+    record {
+      byte-at = λ list at. alone;
+      word-at = λ list at. alone;
+      flag-at = λ list at. alone;
+      put-byte = λ list at n. alone;
+      put-word = λ list at n. alone;
+    }
 
 pub rules-unique : RulesUnique
 rules-unique =

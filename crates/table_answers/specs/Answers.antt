@@ -39,14 +39,15 @@ pub record PutTells (list : List ℕ) (at n : ℕ) : Type 0 where
   pub others : (i : ℕ) → (i ≡ at → ⊥) → getD (set list at n) i 0 ≡ getD list i 0
   pub past : length list ≤ at → set list at n ≡ list
 
--- n is read at a place of a list: the number that has so many before it, and past the list's end 0
-pub record ReadTells (list : List ℕ) (at n : ℕ) : Type 0 where
-  pub there : (before : List ℕ) (x : ℕ) (after : List ℕ) → list ≡ before ++ x ∷ after → length before ≡ at → n ≡ x
-  pub past : length list ≤ at → n ≡ 0
+-- n is read at a place of a list: what has so many before it, and past the list's end what is read of nothing
+pub record ReadTells {A : Type 0} (nothing : A) (list : List A) (at : ℕ) (n : A) : Type 0 where
+  pub there : (before : List A) (x : A) (after : List A) → list ≡ before ++ x ∷ after → length before ≡ at → n ≡ x
+  pub past : length list ≤ at → n ≡ nothing
 
 pub record TablesAnswers : Type 0 where
-  pub byte-at : (list : List ℕ) (at : ℕ) → ReadTells list at (getD list at 0)
-  pub word-at : (list : List ℕ) (at : ℕ) → ReadTells list at (getD list at 0)
+  pub byte-at : (list : List ℕ) (at : ℕ) → ReadTells 0 list at (getD list at 0)
+  pub word-at : (list : List ℕ) (at : ℕ) → ReadTells 0 list at (getD list at 0)
+  pub flag-at : (list : List Bool) (at : ℕ) → ReadTells false list at (getD list at false)
   pub put-byte : (list : List ℕ) (at n : ℕ) → PutTells list at n
   pub put-word : (list : List ℕ) (at n : ℕ) → PutTells list at n
 
@@ -151,9 +152,9 @@ pub record DoorAnswers : Type 0 where
   pub new : (phase holder count : ℕ) → (door phase holder count .phase ≡ phase) × (door phase holder count .holder ≡ holder) × (door phase holder count .count ≡ count)
   -- a door among lists has what each of them has for it, and past a list's end 0: beyond all three it is free
   pub among : (phase holder count : List ℕ) (d : ℕ)
-      → ReadTells phase d (doorIn phase holder count d .phase)
-      × ReadTells holder d (doorIn phase holder count d .holder)
-      × ReadTells count d (doorIn phase holder count d .count)
+      → ReadTells 0 phase d (doorIn phase holder count d .phase)
+      × ReadTells 0 holder d (doorIn phase holder count d .holder)
+      × ReadTells 0 count d (doorIn phase holder count d .count)
   -- "0 free": person 0, countdown 0; and it fits, whatever the people
   pub free : (freeDoor .phase ≡ free) × (freeDoor .holder ≡ 0) × (freeDoor .count ≡ 0) × ((people : ℕ) → DoorFits people freeDoor)
   pub fits : (people : ℕ) (c : Door) → Tells (fieldsFit people c) (DoorFits people c)

@@ -2,7 +2,7 @@
 -- answer and what each lent list holds at exit, is one thing. The promise stands as in the function's `ensures`.
 use Prim.Native.Nat.{ℕ}
 use mathlib.Core.Path.{_≡_}
-use mathlib.Core.Bool.{Bool}
+use mathlib.Core.Bool.{Bool, false}
 use mathlib.Core.List.{List}
 use lib.ListN.{getD, set}
 use Rattle.findings.specs.declared.Found.{Found}
@@ -27,6 +27,7 @@ use Rattle.numbers.specs.Telling.{Unique}
 pub record TablesUnique : Type 0 where
   pub byte-at : (list : List ℕ) (at : ℕ) → Unique (λ (x : ℕ). x ≡ getD list at 0)
   pub word-at : (list : List ℕ) (at : ℕ) → Unique (λ (x : ℕ). x ≡ getD list at 0)
+  pub flag-at : (list : List Bool) (at : ℕ) → Unique (λ (x : Bool). x ≡ getD list at false)
   -- the lent list at exit
   pub put-byte : (list : List ℕ) (at n : ℕ) → Unique (λ (x : List ℕ). x ≡ set list at n)
   pub put-word : (list : List ℕ) (at n : ℕ) → Unique (λ (x : List ℕ). x ≡ set list at n)
