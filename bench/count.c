@@ -1,5 +1,5 @@
-/* Runs a program one instruction at a time, and writes on standard error how many there were. bench/run uses it where the
- * programs run without the emulator. */
+/* Runs a program one instruction at a time, and writes on standard error how many there were, if the program ends well.
+ * bench/run uses it where the programs run without the emulator. */
 #include <signal.h>
 #include <stdio.h>
 #include <sys/ptrace.h>
@@ -38,6 +38,8 @@ int main(int count, char **words)
             return fail("waitpid");
         instructions++;
     }
+    if (!WIFEXITED(status) || WEXITSTATUS(status) != 0)
+        return 2;
     fprintf(stderr, "%llu\n", instructions);
-    return WIFEXITED(status) ? WEXITSTATUS(status) : 1;
+    return 0;
 }

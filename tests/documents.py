@@ -34,6 +34,7 @@ PARTS = {
     "door_fits": ["Door"],
     "door_does": ["Door"],
     "granting": ["Sound"],
+    "sole_grants": ["Sound"],
     "soundness": ["Sound"],
     "deeds": ["Deeds"],
     "record": ["Record"],

@@ -40,6 +40,7 @@ ELSEWHERE = {
     "docs/CHAPTER.md": {"inv4_1"},  # as 001 writes it
     "docs/DECISIONS.md": {"serving", "files", "saying", "line_of", "No", "Idle"},  # what was called so before; the ending of a name
     "docs/SHEETS.md": {"writer", "newline"},  # Python's
+    "docs/changes/C-14.md": {"lacks_door", "lets_in", "zero_at", "sole_grant"},  # private functions that went with it
 }
 
 

@@ -1,7 +1,7 @@
 -- The test that the code computes tells soundness exactly: `sound-tells`. Assumes nothing.
 use Prim.Native.Nat.{ℕ, _+_, _*_, _/_, _%_, _≤_, _<_}
 use mathlib.Core.Path.{_≡_, refl, sym, ap, subst, _∙_}
-use mathlib.Core.Bool.{Bool, true, false, not, cond, true≢false, false≢true}
+use mathlib.Core.Bool.{Bool, true, false, false≢true}
 use mathlib.Core.List.{List}
 use mathlib.Core.Logic.{⊎-elim}
 use native.Mathlib.Nat.{div-add-mod'}
@@ -13,11 +13,11 @@ use Rattle.tables.specs.Tables.{Plan, rightAt, mayBe, orElse, andAlso, mostLoca
 use Rattle.tables.specs.Below.{allBelow, Tells}
 use Rattle.tables.specs.Rules.{Lawful}
 use Rattle.tables.proofs.Answers.{lawful-tells}
-use Rattle.tables.proofs.Laws.{clash, not-so as untrue, tell-eq, tell-itself, tell-and, tell-cond, tell-all, tell-as, tell-unless, tell-when, tell-fails}
+use Rattle.tables.proofs.Laws.{clash, not-so as untrue, tell-eq, tell-itself, tell-and, tell-cond, tell-all, tell-as, tell-unless, tell-when}
 use Rattle.door_fits.proofs.Fields.{FieldsOk, tell-fields}
 use Rattle.door.specs.declared.Door.{Door}
 use Rattle.record.specs.declared.record.Record.{Record}
-use Rattle.phases.specs.Phase.{closed, keeps, grants, lit, leastCount, mostCount}
+use Rattle.phases.specs.Phase.{keeps, grants, lit, leastCount, mostCount}
 use Rattle.door.specs.Door.{freeDoor}
 use Rattle.record.specs.Doors.{planOf, doorOf, Shaped}
 use Rattle.tables.specs.Zero.{ZeroBeyond}

@@ -53,11 +53,11 @@ module _ (names : ℕ → ℕ → Bool) where
         rest false = e
 
     -- a door that names no location is passed
-    pub marks-past : ((l : ℕ) → names l d ≡ false) → Marks n (d + 1) marks
+    marks-past : ((l : ℕ) → names l d ≡ false) → Marks n (d + 1) marks
     marks-past none = record { low = omega arith; long = m .long; each = λ l. unnamed l (none l) }
 
     -- a door that names one location marks it
-    pub marks-on : (at : ℕ) → at < mostMarks → names at d ≡ true → ((l : ℕ) → (l ≡ at → ⊥) → names l d ≡ false) → Marks n (d + 1) (set marks at true)
+    marks-on : (at : ℕ) → at < mostMarks → names at d ≡ true → ((l : ℕ) → (l ≡ at → ⊥) → names l d ≡ false) → Marks n (d + 1) (set marks at true)
     marks-on at fits here others =
         record {
           low = omega arith;

@@ -1,2 +1,2 @@
--- `Marks`: what the code computes of rule 10 from marks of the first locations.
+-- `Marks`: the marks of rules 8 and 10, and what the code computes of rule 10 from them.
 pub mod Marks

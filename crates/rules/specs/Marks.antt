@@ -1,4 +1,5 @@
--- What the code computes of rule 10 from marks: `first` marks each location to which a door leads from outside.
+-- The marks of rules 8 and 10, and what the code computes of rule 10 from them: `first` marks each location to which a door leads from
+-- outside.
 use Prim.Native.Nat.{ℕ}
 use mathlib.Core.Bool.{Bool, false, not}
 use mathlib.Core.List.{List}

@@ -17,9 +17,9 @@ module _ (n : ℕ) (phase holder : List ℕ) where
   abbrev First : ℕ → Type 0
   First d = grants (getD phase d 0) ≡ true → hasGrant d phase holder (getD holder d 0) ≡ false
 
-  -- a door with a grant of a person is not behind another one
-  not-behind : ((d : ℕ) → d < n → First d) → (p d e : ℕ) → GrantAt n phase holder p d → GrantAt n phase holder p e → e < d → ⊥
-  not-behind first p d e here there lt =
+  -- of a person no door before d holds a grant if d does
+  none-before : ((d : ℕ) → d < n → First d) → (p d e : ℕ) → GrantAt n phase holder p d → GrantAt n phase holder p e → e < d → ⊥
+  none-before first p d e here there lt =
       no-grant d phase holder (getD holder d 0) (first d (here .exists) (here .holds)) e
       (record { exists = lt; holds = there .holds; person = there .person ∙ sym (here .person) })
 
@@ -28,8 +28,8 @@ module _ (n : ℕ) (phase holder : List ℕ) where
   sole-tells =
       tell-as
       (λ first p d e here there.
-      let one = not-behind first p d e here there in
-      let other = not-behind first p e d there here in
+      let one = none-before first p d e here there in
+      let other = none-before first p e d there here in
       omega arith)
       (λ two d h g.
       none-found d phase holder (getD holder d 0)

@@ -1,6 +1,7 @@
--- A walk over the doors: what is marked, and what is known of the doors behind. Assumes nothing.
---     walked-start, walked-past, walked-on, walked-twice    the walk begins, goes on past a door, and ends where a person is met again
---     sole-all, not-sole                                    what several walks tell together
+-- A walk over the doors: what is marked, and what is known of the doors that it has passed. Assumes nothing.
+--     so-far-start, so-far-past, so-far-on, so-far-beyond    a walk begins, and goes on past a door
+--     so-far-twice, so-far-end                               it ends where a person is met again, or after the last door
+--     cleared-start, cleared-more, cleared-all                  what several walks tell together
 use Prim.Native.Nat.{ℕ, _+_, _-_, _≤_, _<_}
 use mathlib.Core.Path.{_≡_, refl, sym, subst, _∙_}
 use mathlib.Core.Bool.{Bool, true, false, not, cond}
@@ -8,23 +9,21 @@ use mathlib.Core.List.{List}
 use mathlib.Core.Logic.{⊎-elim}
 use native.Mathlib.Nat.{not-suc-le-zero}
 use native.Mathlib.Omega.{arith}
-use borrow.Author.Tests.{leb-true, le-leb, leb-false, lt-leb}
+use borrow.Author.Tests.{leb-true, le-leb, leb-false}
 use lib.ListN.{length, getD, set, replicate, length-set, length-replicate, getD-replicate, List·getD-eq-default}
 use lib.Seq.{getD-set-same, getD-set-other}
 use borrow.Author.Count.{below-more}
 use lib.Dec.{leb}
-use Rattle.tables.specs.Tables.{orElse, andAlso, mostPeople}
-use Rattle.tables.specs.Below.{allBelow}
+use Rattle.tables.specs.Tables.{orElse, mostPeople}
 use Rattle.tables.proofs.Laws.{clash, not-so, and-left, and-right, and-both, or-right, all-yes, all-back}
 use Rattle.tables.proofs.Cases.{below-or-not, same-or-not}
 use Rattle.phases.specs.Phase.{grants}
 use Rattle.granting.specs.Grants.{GrantAt, hasGrant}
 use Rattle.granting.proofs.Granting.{no-grant, has-grant, none-found, one-found}
 use Rattle.sole_grants.specs.Sole.{soleGrant, soleGrants}
-use Rattle.sole_grants.specs.Marks.{isMarked, withMark, mostNumber}
+use Rattle.sole_grants.specs.Marks.{isMarked, withMark, mostHolder, WalkTells}
 use Rattle.sole_grants.specs.declared.Walked.{Walked}
 use Rattle.sole_grants.specs.declared.Walked.the-variants.{Twice, Sole, Beyond}
-use Rattle.sole_grants.specs.Marks.{WalkTells}
 
 module _ (phase holder : List ℕ) where
   -- a door that holds no grant of a person gives them none
@@ -59,7 +58,7 @@ module _ (phase holder : List ℕ) where
   second-one d e f = rw (e, f)
 
   -- one second grant is enough
-  pub not-sole : (doors d : ℕ) → d < doors → soleGrant phase holder d ≡ false → soleGrants doors phase holder ≡ false
+  not-sole : (doors d : ℕ) → d < doors → soleGrant phase holder d ≡ false → soleGrants doors phase holder ≡ false
   unfolding soleGrants
   not-sole doors d h e = not-so _ (λ all. clash (all-yes (soleGrant phase holder) doors all d h) e)
 
@@ -73,16 +72,16 @@ module _ (phase holder : List ℕ) where
     abbrev pub BeyondTold : ℕ → Walked → Type 0
     BeyondTold d Twice = ⊥
     BeyondTold d Sole = (e : ℕ) → e < d → from + mostPeople ≤ getD holder e 0 → soleGrant phase holder e ≡ true
-    BeyondTold d Beyond = from + mostPeople ≤ mostNumber
+    BeyondTold d Beyond = from + mostPeople ≤ mostHolder
 
     -- the walk has come to door d
-    pub record SoFar (doors : ℕ) (met : List Bool) (told : Walked) (d : ℕ) : Type 0 where
+    pub record WalkSoFar (doors : ℕ) (met : List Bool) (told : Walked) (d : ℕ) : Type 0 where
       pub low : d ≤ doors
       pub marked : Marked d met
       pub sole : (e : ℕ) → e < d → from ≤ getD holder e 0 → getD holder e 0 < from + mostPeople → soleGrant phase holder e ≡ true
       pub beyond : BeyondTold d told
 
-    pub so-far-start : {doors : ℕ} {met : List Bool} → met ≡ replicate mostPeople false → SoFar doors met Sole 0
+    pub so-far-start : {doors : ℕ} {met : List Bool} → met ≡ replicate mostPeople false → WalkSoFar doors met Sole 0
     so-far-start is =
         record {
           low = omega arith;
@@ -102,9 +101,9 @@ module _ (phase holder : List ℕ) where
     beyond-more d Beyond b here = b
 
     -- the walk goes on to the next door
-    so-far-next : {doors d : ℕ} {met next : List Bool} {told now : Walked} → SoFar doors met told d → d < doors → Marked (d + 1) next
+    so-far-next : {doors d : ℕ} {met next : List Bool} {told now : Walked} → WalkSoFar doors met told d → d < doors → Marked (d + 1) next
         → (from ≤ getD holder d 0 → getD holder d 0 < from + mostPeople → soleGrant phase holder d ≡ true) → BeyondTold (d + 1) now
-        → SoFar doors next now (d + 1)
+        → WalkSoFar doors next now (d + 1)
     so-far-next {doors} {d} s h marked here beyond =
         record {
           low = omega arith;
@@ -114,8 +113,8 @@ module _ (phase holder : List ℕ) where
         }
 
     -- past a door without a grant
-    pub so-far-past : {doors d : ℕ} {met : List Bool} {told : Walked} → SoFar doors met told d → d < doors → grants (getD phase d 0) ≡ false
-        → SoFar doors met told (d + 1)
+    pub so-far-past : {doors d : ℕ} {met : List Bool} {told : Walked} → WalkSoFar doors met told d → d < doors → grants (getD phase d 0) ≡ false
+        → WalkSoFar doors met told (d + 1)
     so-far-past {doors} {d} {met} {told} s h free =
         so-far-next s h
         (record {
@@ -179,7 +178,7 @@ module _ (phase holder : List ℕ) where
         first-one d (sym (marked-is m low high) ∙ unmarked)
 
     -- at a grant: p is the person, as the code reads them, and `again` what their mark told
-    module _ {doors d p : ℕ} {met : List Bool} {told : Walked} {again : Bool} (s : SoFar doors met told d) (h : d < doors)
+    module _ {doors d p : ℕ} {met : List Bool} {told : Walked} {again : Bool} (s : WalkSoFar doors met told d) (h : d < doors)
         (g : grants (getD phase d 0) ≡ true) (is : p ≡ getD holder d 0) (tells : again ≡ isMarked met from p) where
       mark-told : {b : Bool} → again ≡ b → isMarked met from (getD holder d 0) ≡ b
       mark-told e = rw (← is) (sym tells ∙ e)
@@ -193,15 +192,15 @@ module _ (phase holder : List ℕ) where
         marked-next = rw (marks, is) (mark-one (s .marked) g)
 
         -- a person beyond the marks is told of from then on
-        pub so-far-beyond : from + mostPeople ≤ p → p ≤ mostNumber → SoFar doors next Beyond (d + 1)
+        pub so-far-beyond : from + mostPeople ≤ p → p ≤ mostHolder → WalkSoFar doors next Beyond (d + 1)
         so-far-beyond far most = so-far-next s h marked-next (first-met (s .marked) (mark-told new)) (omega arith)
 
         -- and the walk goes past everybody else whom it meets for the first time
-        pub so-far-on : p < from + mostPeople → SoFar doors next told (d + 1)
+        pub so-far-on : p < from + mostPeople → WalkSoFar doors next told (d + 1)
         so-far-on near =
             so-far-next s h marked-next (first-met (s .marked) (mark-told new)) (beyond-more d told (s .beyond) (λ far. absurd (omega arith)))
 
-    pub so-far-end : {doors d : ℕ} {met : List Bool} {told : Walked} → SoFar doors met told d → doors ≤ d → WalkTells from doors phase holder told
+    pub so-far-end : {doors d : ℕ} {met : List Bool} {told : Walked} → WalkSoFar doors met told d → doors ≤ d → WalkTells from doors phase holder told
     so-far-end {doors} {d} {met} {told} s end = go told (s .beyond)
       where
         go : (t : Walked) → BeyondTold d t → WalkTells from doors phase holder t
@@ -210,20 +209,20 @@ module _ (phase holder : List ℕ) where
         go Beyond b = (λ e h low near. s .sole e (omega arith) low near, b)
 
   -- the walks so far had marks for everybody below `from`
-  pub record Behind (doors from : ℕ) : Type 0 where
-    pub within : from ≤ mostNumber
+  pub record Cleared (doors from : ℕ) : Type 0 where
+    pub within : from ≤ mostHolder
     pub sole : (d : ℕ) → d < doors → getD holder d 0 < from → soleGrant phase holder d ≡ true
 
-  pub behind-start : {doors : ℕ} → Behind doors 0
-  behind-start = record { within = omega arith; sole = λ d h none. absurd (not-suc-le-zero none) }
+  pub cleared-start : {doors : ℕ} → Cleared doors 0
+  cleared-start = record { within = omega arith; sole = λ d h none. absurd (not-suc-le-zero none) }
 
-  pub behind-all : {doors from : ℕ} → Behind doors from → WalkTells from doors phase holder Sole → soleGrants doors phase holder ≡ true
+  pub cleared-all : {doors from : ℕ} → Cleared doors from → WalkTells from doors phase holder Sole → soleGrants doors phase holder ≡ true
   unfolding soleGrants
-  behind-all {doors} {from} b t =
+  cleared-all {doors} {from} b t =
       all-back (soleGrant phase holder) doors (λ d h. ⊎-elim (λ low. b .sole d h low) (λ high. t d h high) (below-or-not (getD holder d 0) from))
 
-  pub behind-more : {doors from : ℕ} → Behind doors from → WalkTells from doors phase holder Beyond → Behind doors (from + mostPeople)
-  behind-more {doors} {from} b t =
+  pub cleared-more : {doors from : ℕ} → Cleared doors from → WalkTells from doors phase holder Beyond → Cleared doors (from + mostPeople)
+  cleared-more {doors} {from} b t =
       record {
         within = t .1;
         sole = λ d h near. ⊎-elim (λ low. b .sole d h low) (λ high. t .0 d h high near) (below-or-not (getD holder d 0) from);

@@ -1,14 +1,15 @@
 // Whether no person has two grants: the doors are walked once, and each person met with a grant is marked.
 //
-// A walk has marks for as many people as a record has room for, from a person on. A person beyond the marks can't be marked:
-// where a grant is of such a person, the walk tells so, and the next walk has its marks for the people after them.
+// A walk has marks for as many people as a record has room for, from some person on: in a record whose doors fit one walk is enough. A
+// person beyond the marks can't be marked. Where a grant is of such a person, the walk tells so, and another has its marks for the next
+// people.
 ghost use Prim.Native.Nat.{_≤_};
 ghost use mathlib.Core.Path.{_≡_};
 ghost use mathlib.Core.Bool.{false};
 ghost use lib.ListN.{replicate};
 ghost use Rattle.tables.specs.Tables.{mostPeople};
 ghost use Rattle.sole_grants.specs.Sole.{soleGrants};
-ghost use Rattle.sole_grants.specs.Marks.{isMarked, withMark, mostNumber, WalkTells};
+ghost use Rattle.sole_grants.specs.Marks.{isMarked, withMark, mostHolder, WalkTells};
 use door_fits::grants;
 use lists::byte_at;
 use lists::word_at;
@@ -49,8 +50,8 @@ fn met_before(met: &mut [bool], from: usize, person: usize) -> bool
 }
 
 // One walk over the doors, with marks for the people from this one on.
-fn walk<'a>(from: usize, doors: usize, phase: &'a [u8], holder: &'a [u16]) -> Walked
-    requires { ⌜ from ≤ mostNumber ⌝ }
+fn walk_doors<'a>(from: usize, doors: usize, phase: &'a [u8], holder: &'a [u16]) -> Walked
+    requires { ⌜ from ≤ mostHolder ⌝ }
     ensures { λ r. ⌜ WalkTells from doors (now (phase .entry)) (now (holder .entry)) r ⌝ }
 {
     let mut met = no_marks();
@@ -72,13 +73,13 @@ fn walk<'a>(from: usize, doors: usize, phase: &'a [u8], holder: &'a [u16]) -> Wa
     told
 }
 
-// Does none of so many doors hold a grant of a person whose grant a door before it holds?
+// Whether of no person two of so many doors hold a grant.
 pub fn sole_grants<'a>(doors: usize, phase: &'a [u8], holder: &'a [u16]) -> bool
     ensures { λ r. ⌜ r ≡ soleGrants doors (now (phase .entry)) (now (holder .entry)) ⌝ }
 {
     let mut from = 0;
     loop {
-        match walk(from, doors, phase, holder) {
+        match walk_doors(from, doors, phase, holder) {
             Walked::Twice => return false,
             Walked::Sole => return true,
             Walked::Beyond => {

@@ -1,2 +1,3 @@
--- `Rights`: the rights beyond the counts.
+-- `Onward`: loops over the entries from one on. `Rights`: the rights that nobody can have.
+pub mod Onward
 pub mod Rights

@@ -1,12 +1,11 @@
--- The rights beyond the counts: what a test of an entry tells, and the loops over entries and over people. Assumes nothing.
+-- The rights that nobody can have: what a test of an entry tells, and the loop over the people. Assumes nothing.
 use Prim.Native.Nat.{ℕ, _+_, _-_, _*_, _/_, _%_, _≤_, _<_}
-use mathlib.Core.Path.{_≡_, sym, _∙_}
+use mathlib.Core.Path.{_≡_, sym}
 use mathlib.Core.Bool.{Bool, true, false}
 use mathlib.Core.List.{List}
 use mathlib.Core.Logic.{⊎-elim}
 use native.Mathlib.Nat.{not-suc-le-zero}
 use native.Mathlib.Omega.{arith}
-use borrow.Author.Count.{below-more}
 use borrow.Author.Tests.{ltb-false, le-ltb}
 use lib.ListN.{length, getD, List·getD-eq-default}
 use lib.Dec.{ltb}
@@ -14,7 +13,8 @@ use Rattle.tables.specs.Tables.{mostLocations}
 use Rattle.tables.specs.Below.{allBelow, Tells}
 use Rattle.tables.proofs.Laws.{clash, not-so, all-yes, all-back, tell-lt, tell-and, tell-all, tell-as, tell-unless, tell-when, tell-fails, tell-same}
 use Rattle.tables.proofs.Cases.{below-or-not}
-use Rattle.soundness.specs.SoundTest.{rightFits, rightsFit, notGiven, noneGiven, rowFits}
+use Rattle.soundness.specs.SoundTest.{rightFits, rightsFit}
+use Rattle.soundness.specs.Rights.{notGiven, noneGiven, rowFits}
 
 -- ---- an entry
 
@@ -29,44 +29,15 @@ tell-right people locations right i =
     (tell-and (tell-lt (i / mostLocations) people) (tell-and (tell-lt 0 (i % mostLocations)) (tell-lt (i % mostLocations) locations)))
 
 -- a right that is not given fits
-unfit : (people locations : ℕ) (right : List Bool) (i : ℕ) → getD right i false ≡ false → rightFits people locations right i ≡ true
-unfit people locations right i e = tell-right people locations right i .back (λ given. clash given e)
+not-given-fits : (people locations : ℕ) (right : List Bool) (i : ℕ) → getD right i false ≡ false → rightFits people locations right i ≡ true
+not-given-fits people locations right i e = tell-right people locations right i .back (λ given. clash given e)
 
--- ---- the loop over the entries from one to another
+-- ---- the entries from one to another
 
-pub tell-not-given : (from : ℕ) (right : List Bool) (i : ℕ) → Tells (notGiven from right i) (from ≤ i → getD right i false ≡ false)
-unfolding notGiven
-tell-not-given from right i = tell-unless (ltb i from) (ltb-false i from) (le-ltb i from) (tell-fails (getD right i false))
-
--- the loop has come to entry `at`
-pub record NoneSoFar (from : ℕ) (right : List Bool) (at : ℕ) : Type 0 where
-  pub low : from ≤ at
-  pub before : (i : ℕ) → i < at → notGiven from right i ≡ true
-
-pub none-start : {from : ℕ} {right : List Bool} → NoneSoFar from right from
-none-start {from} {right} = record { low = omega arith; before = λ i h. tell-not-given from right i .back (λ low. absurd (omega arith)) }
-
-module _ {from : ℕ} {right : List Bool} {at : ℕ} (r : Bool) where
-  pub none-more : NoneSoFar from right at → r ≡ getD right at false → r ≡ false → NoneSoFar from right (at + 1)
-  none-more s e q =
-      let low = s .low in
-      record {
-        low = omega arith;
-        before = below-more (λ i. notGiven from right i ≡ true) at (s .before) (tell-not-given from right at .back (λ _. sym e ∙ q));
-      }
-
-  pub none-found : (to : ℕ) → NoneSoFar from right at → at < to → r ≡ getD right at false → r ≡ true → false ≡ noneGiven from to right
-  unfolding noneGiven
-  none-found to s h e q =
-      sym (not-so _ (λ all. clash (sym e ∙ q) (tell-not-given from right at .yes (all-yes (notGiven from right) to all at h) (s .low))))
-
-pub none-end : {from to : ℕ} {right : List Bool} {at : ℕ} → NoneSoFar from right at → to ≤ at → true ≡ noneGiven from to right
-unfolding noneGiven
-none-end {from} {to} {right} s h = sym (all-back (notGiven from right) to (λ i l. s .before i (omega arith)))
-
-pub tell-none : (from to : ℕ) (right : List Bool) → Tells (noneGiven from to right) ((i : ℕ) → i < to → from ≤ i → getD right i false ≡ false)
-unfolding noneGiven
-tell-none from to right = tell-all (notGiven from right) _ to (tell-not-given from right)
+tell-none : (from to : ℕ) (right : List Bool) → Tells (noneGiven from to right) ((i : ℕ) → i < to → from ≤ i → getD right i false ≡ false)
+unfolding noneGiven notGiven
+tell-none from to right =
+    tell-all (notGiven from right) _ to (λ i. tell-unless (ltb i from) (ltb-false i from) (le-ltb i from) (tell-fails (getD right i false)))
 
 -- ---- the loop over the people
 
@@ -110,8 +81,8 @@ module _ (people locations : ℕ) (right : List Bool) where
         here i low h =
             ⊎-elim
             (λ more.
-            ⊎-elim (λ near. inside i more near h) (λ far. unfit people locations right i (clear .1 i h far)) (below-or-not i (row + locations)))
-            (λ le. let is : i ≡ row = omega arith in rw is (unfit people locations right row (clear .0)))
+            ⊎-elim (λ near. inside i more near h) (λ far. not-given-fits people locations right i (clear .1 i h far)) (below-or-not i (row + locations)))
+            (λ le. let is : i ≡ row = omega arith in rw is (not-given-fits people locations right row (clear .0)))
             (below-or-not row i)
 
     pub row-unfit : (left ≡ 0 → ⊥) → rowFits locations right row ≡ false → false ≡ rightsFit people locations right

@@ -1,5 +1,5 @@
 -- What the code computes of lent lists to tell whether a record is sound (01, "The record").
-use Prim.Native.Nat.{ℕ, _+_, _/_, _%_}
+use Prim.Native.Nat.{ℕ, _/_, _%_}
 use mathlib.Core.Bool.{Bool, false, not, cond}
 use mathlib.Core.List.{List}
 use lib.ListN.{length, getD}
@@ -27,17 +27,6 @@ rightFits people locations right i =
 
 unfoldable pub rightsFit : ℕ → ℕ → List Bool → Bool
 rightsFit people locations right = allBelow (rightFits people locations right) (length right)
-
--- none of the rights from `from` on, up to `to`, is given
-unfoldable pub notGiven : ℕ → List Bool → ℕ → Bool
-notGiven from right i = orElse (ltb i from) (not (getD right i false))
-
-unfoldable pub noneGiven : ℕ → ℕ → List Bool → Bool
-noneGiven from to right = allBelow (notGiven from right) to
-
--- of the rights from `row` on, one person's, none is to location 0 and none beyond the locations
-unfoldable pub rowFits : ℕ → List Bool → ℕ → Bool
-rowFits locations right row = andAlso (not (getD right row false)) (noneGiven (row + locations) (row + mostLocations) right)
 
 -- a person is where they may be, and beyond the people stands 0
 unfoldable pub placeFits : ℕ → List Bool → List ℕ → ℕ → Bool

@@ -6,8 +6,9 @@ ghost use Prim.Native.Nat.{ℕ, _<_};
 ghost use lib.ListN.{length};
 ghost use Rattle.tables.specs.Tables.{plan};
 ghost use Rattle.door_fits.specs.Fits.{isFree};
-ghost use Rattle.soundness.specs.SoundTest.{zeroAt, zeroFrom, noneGiven, rowFits, rightsFit, placeFits, placesFit};
+ghost use Rattle.soundness.specs.SoundTest.{zeroFrom, rightsFit, placeFits, placesFit};
 ghost use Rattle.soundness.specs.SoundTest.{doorFits, doorsFit, grantFits, grantsFit};
+ghost use Rattle.soundness.specs.Rights.{noneGiven, rowFits};
 ghost use Rattle.soundness.specs.SoundTest.{zeroBeyond, doorsSound, listsSound};
 use door::Door;
 use door_fits::fits;
@@ -20,22 +21,13 @@ use sole_grants::sole_grants;
 use tables::MOST_DOORS;
 use tables::MOST_LOCATIONS;
 
-// Beyond the count a table holds 0.
-fn zero_at(count: usize, table: &[u8], at: usize) -> bool
-    ensures { λ r. ⌜ r ≡ zeroAt count (now (table .entry)) at ⌝ }
-{
-    if at < count {
-        return true;
-    }
-    byte_at(table, at) == 0
-}
-
+// From the count on a table holds 0.
 fn zero_from(count: usize, table: &[u8]) -> bool
     ensures { λ r. ⌜ r ≡ zeroFrom count (now (table .entry)) ⌝ }
 {
-    let mut at = 0;
+    let mut at = count;
     while at < table.len() {
-        if !zero_at(count, table, at) {
+        if byte_at(table, at) != 0 {
             return false;
         }
         at += 1;

@@ -1,10 +1,9 @@
 -- `row_fits` meets its contract: each return is decided by the tests before it. Assumes nothing.
 use mathlib.Core.Path.{sym, _∙_}
-use mathlib.Core.Bool.{true, false}
 use native.Mathlib.Omega.{arith}
 use borrow.Author.Needs.{needs}
 use Rattle.tables.specs.Tables.{andAlso}
-use Rattle.soundness.specs.SoundTest.{rowFits}
+use Rattle.soundness.specs.Rights.{rowFits}
 use Rattle.soundness.proofs.Rights.{tell-row}
 use Rattle.soundness.proofs.row_fits.Statement.{statement}
 use Rattle.soundness.proofs.row_fits.Tie as tie

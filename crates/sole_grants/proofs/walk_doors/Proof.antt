@@ -1,14 +1,14 @@
--- `walk` meets its contract: each turn goes past a door, and marks the person of its grant. Assumes nothing.
+-- `walk_doors` meets its contract: each turn goes past a door, and marks the person of its grant. Assumes nothing.
 use Prim.Native.Nat.{_-_}
 use mathlib.Core.Path.{sym, _∙_}
 use native.Mathlib.Omega.{arith}
 use borrow.Author.Needs.{needs}
-use Rattle.sole_grants.proofs.Walks.{SoFar, so-far-start, so-far-past, so-far-twice, so-far-beyond, so-far-on, so-far-end}
-use Rattle.sole_grants.proofs.walk.Statement.{statement}
-use Rattle.sole_grants.proofs.walk.Tie as tie
+use Rattle.sole_grants.proofs.Walks.{WalkSoFar, so-far-start, so-far-past, so-far-twice, so-far-beyond, so-far-on, so-far-end}
+use Rattle.sole_grants.proofs.walk_doors.Statement.{statement}
+use Rattle.sole_grants.proofs.walk_doors.Tie as tie
 
 abbrev Inv-loop : tie.InvT-loop
-Inv-loop from doors phase holder met₀ told₀ door₀ met told door = SoFar phase holder from doors met told door
+Inv-loop from doors phase holder met₀ told₀ door₀ met told door = WalkSoFar phase holder from doors met told door
 
 abbrev μ-loop : tie.MeasureT-loop
 μ-loop from doors phase holder met₀ told₀ door₀ met told door = doors - door
@@ -56,8 +56,8 @@ loop-again-3 c =
 returns-2 : tie.Need-returns-2 Inv-loop μ-loop
 returns-2 c = so-far-end _ _ _ (c .before .loop .inv) (c .loop-test .left)
 
-pub walk-spec : {M : Type 1} → statement M
-walk-spec =
+pub walk-doors-spec : {M : Type 1} → statement M
+walk-doors-spec =
     tie.close
     (tie.spec
     Inv-loop μ-loop (λ c κs. search needs) loop-holds (λ c. search needs) (λ c κs. search needs) (λ c κs. search needs) (λ c κs. search needs)
