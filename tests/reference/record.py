@@ -71,14 +71,18 @@ class Record:
             return False
         return phase not in GRANTS or self.place[person] == self.origin[door] and site.may_be(person, self.destination[door])
 
+    def grants_are_sole(self):
+        """No person has two grants."""
+        granted = [person for person, phase in zip(self.person[:self.doors], self.phase) if phase in GRANTS]
+        return len(set(granted)) == len(granted)
+
     def is_sound(self):
         try:
             site = self.site()
         except Refused:
             return False
-        granted = [self.person[door] for door in range(self.doors) if self.phase[door] in GRANTS]
         return (self.places_are_0() and all(site.may_be(person, self.place[person]) for person in range(self.people))
-                and all(self.door_fits(site, door) for door in range(self.doors)) and len(set(granted)) == len(granted))
+                and all(self.door_fits(site, door) for door in range(self.doors)) and self.grants_are_sole())
 
     # ---- Steps and questions: 14, then 11, then 12 or 13
 

@@ -1,5 +1,5 @@
-// The questions: whether the record is sound, where a person is, which door is granted to a person, the way out of a location; and a
-// run of which one list is too short.
+// The questions: whether the record is sound, where a person is, which door is granted to a person, the way out of a location; a
+// run of which one list is too short; and whether no person has two grants, of any record.
 use crate::step::write_ran;
 use crate::write::write;
 use crate::write::write_bytes;
@@ -9,6 +9,7 @@ use questions::granted_to;
 use questions::place_of;
 use questions::way_out;
 use record::record::Record;
+use sole_grants::sole_grants;
 use tables::MOST_LOCATIONS;
 
 // What a list holds before a way out is written into it.
@@ -51,22 +52,27 @@ fn write_short(list: usize, record: Record) {
     write_ran(0, 0, 0, list, UNWRITTEN, record);
 }
 
-fn write_sound(record: Record) {
-    if record.is_sound() {
+fn write_whether(so: bool) {
+    if so {
         write(b",yes");
     } else {
         write(b",no");
     }
 }
 
+fn write_sole(record: Record) {
+    write_whether(sole_grants(record.doors, &record.phase, &record.holder));
+}
+
 // Answers a question, by the number of its word.
 pub fn ask(question: u8, a: usize, b: usize, record: Record) {
     match question {
-        12 => write_sound(record),
+        12 => write_whether(record.is_sound()),
         13 => write_place(a, record),
         14 => write_grant(a, record),
         15 => write_way(a, b, record),
         16 => write_short(a, record),
+        17 => write_sole(record),
         _ => (),
     }
 }

@@ -5,7 +5,7 @@
 // A row has a word and two numbers. `site` reads a site sheet. The name of a field puts its entry anew, `right` turns a right about.
 // The name of a step does it in five ways, from the same record: by `step`, by `step_numbered`, on the record that is lent, by `run`
 // and by the method of that name, whose record is kept. `short` runs a step with no room in one list, by the list's number.
-// `sound`, `where`, `granted` and `way` ask.
+// `sound`, `where`, `granted`, `way` and `sole` ask.
 mod ask;
 mod put;
 mod step;

@@ -45,41 +45,41 @@ fn turn_right(person: usize, location: usize, mut record: Record) -> Record {
 // The record with a field put anew, or an entry of it, by the number of its word.
 pub fn with_field(field: u8, a: usize, b: usize, mut record: Record) -> Record {
     match field {
-        17 => record.people = a,
-        18 => record.locations = a,
-        19 => record.doors = a,
-        20 => {
+        18 => record.people = a,
+        19 => record.locations = a,
+        20 => record.doors = a,
+        21 => {
             let origin = record.origin;
             let origin = bytes_with(a, b, origin);
             record.origin = origin;
         }
-        21 => {
+        22 => {
             let destination = record.destination;
             let destination = bytes_with(a, b, destination);
             record.destination = destination;
         }
-        22 => {
+        23 => {
             let exit = record.exit;
             let exit = exits_with(a, b, exit);
             record.exit = exit;
         }
-        23 => record = turn_right(a, b, record),
-        24 => {
+        24 => record = turn_right(a, b, record),
+        25 => {
             let place = record.place;
             let place = places_with(a, b, place);
             record.place = place;
         }
-        25 => {
+        26 => {
             let phase = record.phase;
             let phase = bytes_with(a, b, phase);
             record.phase = phase;
         }
-        26 => {
+        27 => {
             let holder = record.holder;
             let holder = words_with(a, b, holder);
             record.holder = holder;
         }
-        27 => {
+        28 => {
             let count = record.count;
             let count = words_with(a, b, count);
             record.count = count;

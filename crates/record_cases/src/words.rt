@@ -10,7 +10,7 @@ pub const SITE: u8 = 11;
 
 pub const SOUND: u8 = 12;
 
-pub const PEOPLE: u8 = 17;
+pub const PEOPLE: u8 = 18;
 
 // Whether a word of the rows is this one of a list of words.
 fn is_listed(s: &[u8], word: Cell, list: &[u8], listed: Cell) -> bool {
@@ -46,6 +46,6 @@ pub fn word_number(s: &[u8], word: Cell) -> u8 {
     number_in(
         s,
         word,
-        b"card\r\ndecide\r\ngreen\r\nred\r\nwalk\r\ntick\r\npassed\r\nlapsed\r\ndark\r\nack\r\nunknown\r\nsite\r\nsound\r\nwhere\r\ngranted\r\nway\r\nshort\r\npeople\r\nlocations\r\ndoors\r\norigin\r\ndestination\r\nexit\r\nright\r\nplace\r\nphase\r\nperson\r\ncountdown\r\n",
+        b"card\r\ndecide\r\ngreen\r\nred\r\nwalk\r\ntick\r\npassed\r\nlapsed\r\ndark\r\nack\r\nunknown\r\nsite\r\nsound\r\nwhere\r\ngranted\r\nway\r\nshort\r\nsole\r\npeople\r\nlocations\r\ndoors\r\norigin\r\ndestination\r\nexit\r\nright\r\nplace\r\nphase\r\nperson\r\ncountdown\r\n",
     )
 }
