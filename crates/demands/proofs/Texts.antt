@@ -34,7 +34,7 @@ use Rattle.run_text.proofs.Serving.{replies-length}
 use Rattle.run_text.proofs.Sheets.{zero-accepted}
 use Rattle.sheet_answers.proofs.Texts.{text-tells, blank-long, in-blank}
 use Rattle.syslog_answers.proofs.Answers.{read-events-fits}
-use Rattle.table_answers.proofs.Tables.{no-right-past}
+use Rattle.tables.proofs.Laws.{no-right-past}
 use Rattle.demands.specs.DemandOne.{RunAnswers}
 use Rattle.demands.proofs.DemandOne.{number-most}
 use Rattle.demands.proofs.Fits.{row-short, rows-short, places-short}

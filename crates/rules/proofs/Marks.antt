@@ -6,14 +6,15 @@ use mathlib.Core.List.{List}
 use mathlib.Core.Logic.{⊎-elim}
 use native.Mathlib.Numerals.{add-one}
 use native.Mathlib.Omega.{arith}
-use borrow.Author.Tests.{eqb-true, eq-eqb, ltb-true}
-use lib.ListN.{length, getD, set, replicate, length-set, length-replicate, getD-replicate, List·getD-eq-default}
+use borrow.Author.Tests.{eqb-true, eq-eqb}
+use lib.ListN.{length, getD, set, replicate, length-set, length-replicate}
 use lib.Seq.{getD-set-same, getD-set-other}
-use lib.Dec.{eqb, ltb}
-use Rattle.tables.specs.Tables.{rightAt, mayBe, orElse, andAlso, mostLocations}
+use lib.Dec.{eqb}
+use Rattle.tables.specs.Tables.{mayBe, orElse, mostLocations}
 use Rattle.tables.specs.Below.{someBelow}
 use Rattle.tables.specs.Tests.{joins, letsIn, shutOut}
-use Rattle.tables.proofs.Laws.{not-so, and-left, and-right, and-both, some-yes, some-back, tell-itself, tell-same}
+use Rattle.tables.proofs.Laws.{no-right-past, clash, not-so, and-left, and-right, and-both, some-yes, some-back, tell-itself, tell-same}
+use Rattle.tables.proofs.Zero.{same-at}
 use Rattle.tables.proofs.Cases.{below-or-not, same-or-not}
 use Rattle.rules.specs.Marks.{mostMarks, isFirst, hasNoFirst}
 
@@ -35,11 +36,7 @@ module _ (names : ℕ → ℕ → Bool) where
       record {
         low = omega arith;
         long = rw is (length-replicate mostMarks false);
-        each = λ l.
-            rw is
-            (⊎-elim (λ h. getD-replicate mostMarks l false false h)
-            (λ far. let past : length (replicate mostMarks false) ≤ l = rw (length-replicate mostMarks false) far in List·getD-eq-default (replicate mostMarks false) false past)
-            (below-or-not l mostMarks));
+        each = λ l. rw is (same-at mostMarks l false);
       }
 
   module _ {n d : ℕ} {marks : List Bool} (m : Marks n d marks) (h : d < n) where
@@ -118,12 +115,7 @@ module _ (origin destination : List ℕ) where
 
   -- where a person may be is one of the locations that a site may have
   may-be-near : (right : List Bool) (p l : ℕ) → mayBe right p l ≡ true → l < mostLocations
-  unfolding mayBe orElse
-  may-be-near right p l e = go (eqb l 0) refl e
-    where
-      go : (b : Bool) → eqb l 0 ≡ b → orElse b (andAlso (ltb l mostLocations) (rightAt right p l)) ≡ true → l < mostLocations
-      go true z q = let is = eqb-true l 0 z in omega arith
-      go false z q = ltb-true l mostLocations (and-left _ _ q)
+  may-be-near right p l e = ⊎-elim (λ h. h) (λ far. clash e (no-right-past right p l far)) (below-or-not l mostLocations)
 
   -- a person has a first location among the marked ones exactly when a door lets them in
   pub no-first-same : (doors : ℕ) (first right : List Bool) → ((l : ℕ) → getD first l false ≡ someBelow (Firsts l) doors)

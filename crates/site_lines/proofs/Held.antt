@@ -6,14 +6,14 @@ use mathlib.Core.Path.{_≡_, refl, sym, ap, subst, _∙_}
 use mathlib.Core.Logic.{⊎-elim}
 use mathlib.Core.Bool.{Bool, true, false, cond, true≢false}
 use mathlib.Core.List.{List, [], _∷_, _++_, append-nil}
-use lib.ListN.{length, getD, set, replicate, length-append, length-set, length-replicate, getD-replicate, List·getD-eq-default, List·getD-append}
+use lib.ListN.{length, getD, set, length-append, length-set, length-replicate, List·getD-eq-default, List·getD-append}
 use lib.Seq.{getD-set-same, getD-set-other, getD-append-seam}
 use lib.Dec.{eqb}
 use borrow.Author.Tests.{eq-eqb, ne-eqb}
 use Rattle.tables.specs.Tables.{orElse, andAlso, mostPeople, mostLocations, mostDoors}
 use Rattle.tables.specs.Rules.{PlanInRange}
 use Rattle.tables.specs.Zero.{ZeroBeyond, zeros}
-use Rattle.tables.proofs.Zero.{zeros-at, zeros-long}
+use Rattle.tables.proofs.Zero.{same-at, zeros-at, zeros-long}
 use Rattle.tables.proofs.Cases.{same-or-not, below-or-not}
 use Rattle.site_lines.specs.declared.SiteLine.{SiteLine}
 use Rattle.site_lines.specs.declared.SiteLine.the-variants.{Site, Door, Exit, Right, Bad}
@@ -52,10 +52,7 @@ pub record Held (before : List SiteLine) (d : Draft) : Type 0 where
 
 pub unmarked-at : (n k : ℕ) → getD (unmarked n) k false ≡ false
 unfolding unmarked
-unmarked-at n k = ⊎-elim (λ h. getD-replicate n k false false h) beyond (below-or-not k n)
-  where
-    beyond : n ≤ k → getD (replicate n false) k false ≡ false
-    beyond h = let l : length (replicate n false) ≤ k = rw (length-replicate n false) h in List·getD-eq-default (replicate n false) false l
+unmarked-at n k = same-at n k false
 
 pub held-blank : Held [] blankDraft
 unfolding originsIn destinationsIn hasExit exitIn hasRight zeros unmarked

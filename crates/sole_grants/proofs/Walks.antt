@@ -10,12 +10,13 @@ use mathlib.Core.Logic.{⊎-elim}
 use native.Mathlib.Nat.{not-suc-le-zero}
 use native.Mathlib.Omega.{arith}
 use borrow.Author.Tests.{leb-true, le-leb, leb-false}
-use lib.ListN.{length, getD, set, replicate, length-set, length-replicate, getD-replicate, List·getD-eq-default}
+use lib.ListN.{length, getD, set, replicate, length-set, length-replicate, List·getD-eq-default}
 use lib.Seq.{getD-set-same, getD-set-other}
 use borrow.Author.Count.{below-more}
 use lib.Dec.{leb}
 use Rattle.tables.specs.Tables.{orElse, mostPeople}
 use Rattle.tables.proofs.Laws.{clash, not-so, and-left, and-right, and-both, or-right, all-yes, all-back}
+use Rattle.tables.proofs.Zero.{same-at}
 use Rattle.tables.proofs.Cases.{below-or-not, same-or-not}
 use Rattle.phases.specs.Phase.{grants}
 use Rattle.granting.specs.Grants.{GrantAt, hasGrant}
@@ -88,7 +89,7 @@ module _ (phase holder : List ℕ) where
           marked =
               record {
                 long = rw is (length-replicate mostPeople false);
-                each = λ i h. rw is (getD-replicate mostPeople i false false h ∙ sym (none-found 0 phase holder (from + i) (λ k g. not-suc-le-zero (g .exists))));
+                each = λ i h. rw is (same-at mostPeople i false ∙ sym (none-found 0 phase holder (from + i) (λ k g. not-suc-le-zero (g .exists))));
               };
           sole = λ e h. absurd (not-suc-le-zero h);
           beyond = λ e h. absurd (not-suc-le-zero h);
@@ -169,7 +170,7 @@ module _ (phase holder : List ℕ) where
             let high = leb-false from (getD holder d 0) e in
             record { long = m .long; each = λ i h. m .each i h ∙ sym (other i (λ is. omega arith)) }
 
-    -- with a mark the person had no grant before
+    -- a person who has a mark that isn't set had no grant before
     first-met : {d : ℕ} {met : List Bool} → Marked d met → isMarked met from (getD holder d 0) ≡ false → from ≤ getD holder d 0 → getD holder d 0 < from + mostPeople
         → soleGrant phase holder d ≡ true
     unfolding isMarked

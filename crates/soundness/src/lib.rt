@@ -63,7 +63,7 @@ fn row_fits(locations: usize, right: &[bool], row: usize) -> bool
     none_given(right, row + locations, row + MOST_LOCATIONS)
 }
 
-// A right is one of a person to a location other than 0.
+// A right is one of a person to a location other than 0: each person's row is tested, and then what is beyond the people.
 fn rights_fit(people: usize, locations: usize, right: &[bool]) -> bool
     ensures { λ r. ⌜ r ≡ rightsFit people locations (now (right .entry)) ⌝ }
 {

@@ -4,8 +4,7 @@ use mathlib.Core.Path.{_≡_, refl, ap, _∙_}
 use mathlib.Core.Bool.{Bool, true, false, false≢true}
 use mathlib.Core.List.{List}
 use mathlib.Core.Logic.{inl, inr, _⊎_, ⊎-elim}
-use native.Mathlib.Omega.{arith}
-use borrow.Author.Tests.{ne-eqb, eqb-true, eq-eqb, le-ltb, ltb-true, lt-ltb, le-leb, lt-leb}
+use borrow.Author.Tests.{eqb-true, eq-eqb, ltb-true, lt-ltb, le-leb, lt-leb}
 use lib.ListN.{length, getD, length-set, List·getD-eq-default}
 use lib.Seq.{getD-at, set-out, getD-set-same, getD-set-other}
 use lib.Dec.{eqb, ltb}
@@ -50,11 +49,6 @@ way-tells way list most =
       room = λ h. let e = le-leb (length way) (length list) h in (rw e, rw e);
       most = most;
     }
-
--- past the last location no right is read
-pub no-right-past : (right : List Bool) (p l : ℕ) → mostLocations ≤ l → mayBe right p l ≡ false
-unfolding mayBe orElse andAlso
-no-right-past right p l h = rw (ne-eqb l 0 (λ e. omega arith), le-ltb l mostLocations h)
 
 may-be-tells : (right : List Bool) (p l : ℕ) → Tells (mayBe right p l) ((l ≡ 0) ⊎ ((l < mostLocations) × (rightAt right p l ≡ true)))
 unfolding mayBe orElse andAlso

@@ -1,7 +1,7 @@
 -- The laws of what holds below a number (`specs/Below.antt`) and of tests that tell facts, each both ways.
 --     all-yes, all-back, some-yes, some-back, some-none, none-some      for all below n, for some below n
 --     least-none, none-least, least-at, at-least                        the least below n
---     may-be-outside                                                    location 0 is everybody's
+--     may-be-outside, no-right-past                                     location 0 is everybody's; past the locations there is no right
 --     tell-..                                                           tests put together
 --     answers, answers-pair                                             a search answers none or the smallest offender
 -- Assumes nothing.
@@ -12,9 +12,9 @@ use mathlib.Core.Logic.{⊎-elim}
 use mathlib.Core.List.{List}
 use native.Mathlib.Nat.{not-suc-le-zero, eq-or-lt-of-le, le-of-suc-le-suc}
 use native.Mathlib.Omega.{arith}
-use borrow.Author.Tests.{ltb-true, lt-ltb, leb-true, le-leb, eqb-true, eq-eqb}
+use borrow.Author.Tests.{ltb-true, lt-ltb, le-ltb, leb-true, le-leb, eqb-true, eq-eqb, ne-eqb}
 use lib.Dec.{ltb, leb, eqb}
-use Rattle.tables.specs.Tables.{orElse, andAlso, mayBe}
+use Rattle.tables.specs.Tables.{orElse, andAlso, mayBe, mostLocations}
 use Rattle.tables.specs.Below.{allBelow, someBelow, orAt, leastBelow, withLocation, locationOf, leastPair, isNothing, noPair}
 use Rattle.tables.specs.Below.{Tells, Answers, SmallestPair, AnswersPair}
 use Rattle.findings.specs.declared.Found.{Found}
@@ -149,6 +149,11 @@ module _ (test : ℕ → Bool) where
 pub may-be-outside : (right : List Bool) (p : ℕ) → mayBe right p 0 ≡ true
 unfolding mayBe orElse
 may-be-outside right p = refl
+
+-- no right is read for a location past those that a site may have
+pub no-right-past : (right : List Bool) (p l : ℕ) → mostLocations ≤ l → mayBe right p l ≡ false
+unfolding mayBe orElse andAlso
+no-right-past right p l h = rw (ne-eqb l 0 (λ e. omega arith), le-ltb l mostLocations h)
 
 -- ---- tests that tell facts
 
