@@ -1,5 +1,5 @@
 // `bench_record`: puts a grant at every door of a site's record, and then tests its soundness as many times as the argument says;
-// with a second argument it does so many steps on the record lent instead, the order `green` at one door after the other. It
+// with a second argument it does so many steps on the record lent instead, a tick at one door after the other. It
 // writes how many tests said sound, or how many steps were done. bench/run counts its instructions.
 ghost use Prim.Native.Nat.{_≤_};
 use blank_lists::blank_sheet;
@@ -54,7 +54,7 @@ fn steps_done(rounds: usize, mut record: Record) -> u64 {
     let mut done = 0;
     let mut n = 0;
     while n < rounds {
-        let step = lend(record, Kind::Green, n, 0);
+        let step = lend(record, Kind::Tick, n % MOST_DOORS, 0);
         record = step.next;
         let answer = step.answer;
         done += counted(answer.number() == Paper::DONE);

@@ -1,12 +1,10 @@
 -- The theorems. `Demands` is the file to read: it has each by its name. The others prove their parts.
 --     DemandOne, StepsSheet, Texts   demand 1 of a site sheet, of a steps sheet, and of what the programs print
---     Fits                           no text is too long for the programs' lists
 --     DemandTwo                      demand 2
 --     Unique                         answers are unique
 --     Bytes                          demand 3 down to the bytes
 pub mod Unique
 pub mod StepsSheet
-pub mod Fits
 pub mod DemandOne
 pub mod Texts
 pub mod DemandTwo

@@ -30,14 +30,13 @@ use Rattle.blank_lists.specs.{mostPanelText, mostWhereText}
 use Rattle.stream_text.specs.Stream.{eventsText}
 use Rattle.stream_text.proofs.Theorems.{events-text-fits}
 use Rattle.text.proofs.Decimal.{one-digit, two-digits}
-use Rattle.run_text.proofs.Serving.{replies-length}
+use Rattle.run_text.proofs.Fits.{row-short, run-short, places-short}
 use Rattle.run_text.proofs.Sheets.{zero-accepted}
 use Rattle.sheet_answers.proofs.Texts.{text-tells, blank-long, in-blank}
 use Rattle.syslog_answers.proofs.Answers.{read-events-fits}
 use Rattle.tables.proofs.Laws.{no-right-past}
 use Rattle.demands.specs.DemandOne.{RunAnswers}
 use Rattle.demands.proofs.DemandOne.{number-most}
-use Rattle.demands.proofs.Fits.{row-short, rows-short, places-short}
 
 alone-fits : (n : ℕ) → n ≤ 10 → length (aloneText n) ≤ mostPanelText
 unfolding aloneText
@@ -48,24 +47,11 @@ alone-fits n h =
     let w = row-short 0 n 0 0 0 (omega arith) (omega arith) (omega arith) (omega arith) in
     omega arith
 
-last-fits : (whole : Bool) (n : ℕ) → n < 10000 → length (lastRow whole n) ≤ 15
-last-fits true n h = omega arith
-last-fits false n h = let a = one-digit 2 (omega arith) in let z = one-digit 0 (omega arith) in row-short n 2 0 0 0 h (omega arith) (omega arith) (omega arith)
-
 ran-fits : (r : Record) → Shaped r → Sound r → (s : List ℕ) (from : ℕ) → length s ≤ limit → length (ranText r (stepsFrom s from)) ≤ mostPanelText
-unfolding runText
 ran-fits r sh s sheet from h =
-    let steps = stepsFrom sheet from in
-    let rows = steps .rows in
     let most = few-steps sheet from in
-    let told = replies-length r (stepsFrom sheet from .rows) in
-    let answers = answerRows 1 (repliesOf r rows) in
-    let end = lastRow (steps .whole) (length (repliesOf r rows) + 1) in
-    let short = rows-short r sh s rows 1 (omega (arith, most)) in
-    let bad = last-fits (steps .whole) (length (repliesOf r rows) + 1) (omega (arith, told, most)) in
-    let l = length-append panelHeader (answers ++ end) in
-    let m = length-append answers end in
-    omega arith
+    let short = run-short r sh s (stepsFrom sheet from .rows) (stepsFrom sheet from .whole) (omega (arith, most)) in
+    omega (arith, most, short)
 
 steps-fit : (site : List ℕ) → AcceptedRecord limit site → (steps : List ℕ) (h : Heading) → headingOf steps ≡ h
     → length (stepsText (siteOf site .«record») steps h) ≤ mostPanelText

@@ -24,7 +24,7 @@ all-right : allBelow right-at 100 ≡ true
 unfolding allBelow andAlso right-at table allows kindOf
 all-right = refl
 
-same-bool : (a b : Bool) → Bool·beq a b ≡ true → a ≡ b
+pub same-bool : (a b : Bool) → Bool·beq a b ≡ true → a ≡ b
 same-bool true true e = refl
 same-bool true false e = absurd (false≢true e)
 same-bool false true e = absurd (false≢true e)

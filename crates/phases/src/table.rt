@@ -34,118 +34,19 @@ pub enum Kind {
 const STEPS: u8 = 10;
 
 // Which step each phase allows: a row for each phase, and in it an entry for each of card, decide,
-// green, red, walk, tick, passed, lapsed, dark, ack.
-const ALLOWED: [bool; 100] = [
-    // free
-    true,
-    false,
-    false,
-    false,
-    false,
-    true,
-    false,
-    false,
-    false,
-    false,
-    // read
-    false,
-    true,
-    false,
-    false,
-    false,
-    true,
-    false,
-    false,
-    false,
-    false,
-    // granted
-    false,
-    false,
-    true,
-    false,
-    false,
-    true,
-    false,
-    false,
-    false,
-    false,
-    // green
-    false,
-    false,
-    false,
-    false,
-    true,
-    true,
-    false,
-    false,
-    false,
-    false,
-    // walked
-    false,
-    false,
-    false,
-    false,
-    false,
-    true,
-    true,
-    false,
-    false,
-    false,
-    // expired
-    false,
-    false,
-    false,
-    false,
-    false,
-    true,
-    false,
-    true,
-    false,
-    false,
-    // denied
-    false,
-    false,
-    false,
-    true,
-    false,
-    true,
-    false,
-    false,
-    false,
-    false,
-    // red
-    false,
-    false,
-    false,
-    false,
-    false,
-    true,
-    false,
-    false,
-    false,
-    false,
-    // dimmed
-    false,
-    false,
-    false,
-    false,
-    false,
-    true,
-    false,
-    false,
-    true,
-    false,
-    // closed
-    false,
-    false,
-    false,
-    false,
-    false,
-    true,
-    false,
-    false,
-    false,
-    true,
+// green, red, walk, tick, passed, lapsed, dark, ack, 1 for a step that is allowed. A row is one number,
+// so that the whole table is small enough to be at hand at every step.
+const ALLOWED: [u16; 10] = [
+    0b1000010000, // free
+    0b0100010000, // read
+    0b0010010000, // granted
+    0b0000110000, // green
+    0b0000011000, // walked
+    0b0000010100, // expired
+    0b0001010000, // denied
+    0b0000010000, // red
+    0b0000010010, // dimmed
+    0b0000010001, // closed
 ];
 
 impl Kind {
@@ -198,6 +99,6 @@ impl Kind {
         if Phase::CLOSED < phase {
             return false;
         }
-        ALLOWED[phase as usize * STEPS as usize + step as usize]
+        ALLOWED[phase as usize] >> (STEPS - 1 - step) & 1 == 1
     }
 }

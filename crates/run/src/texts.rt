@@ -11,7 +11,8 @@ ghost use Rattle.grammar.specs.Sizes.{limit};
 ghost use Rattle.text.specs.Wrote.{Wrote};
 ghost use Rattle.text.specs.Printed.{Prints};
 ghost use Rattle.steps_sheet.specs.Steps.{headingOf, stepsFrom};
-ghost use Rattle.run_text.specs.Printed.{answerRows, repliesFrom, runText, aloneText, ranText, stepsText, panelText};
+ghost use Rattle.steps_sheet.specs.Lent.{mostSteps};
+ghost use Rattle.run_text.specs.Printed.{answerRows, repliesFrom, runText, mostRunText, aloneText, ranText, stepsText, panelText};
 ghost use Rattle.run_text.specs.Printed.{placesText, recordText, lastRecord, whereText};
 use crate::blank::blank_bytes;
 use crate::blank::blank_held;
@@ -81,7 +82,15 @@ fn put_run<'a>(
     )
 }
 
-// The text of a run, if it fits.
+// The most bytes of the text of a run of so many steps.
+fn most_text(steps: usize) -> usize
+    requires { ⌜ steps ≤ mostSteps ⌝ }
+    ensures { λ r. ⌜ r ≡ mostRunText steps ⌝ }
+{
+    30 + 15 * (steps + 1)
+}
+
+// The text of a run, if it fits. Where the list is so long that it must, it is written at once; else it is measured first.
 fn print_run<'a>(
     answers: &'a [u8],
     phases: &'a [u8],
@@ -91,8 +100,12 @@ fn print_run<'a>(
     out: &'a mut [u8],
 ) -> Printed
     requires { ⌜ (length (now phases) ≡ length (now answers)) × (length (now reasons) ≡ length (now answers)) × (length (now held) ≡ length (now answers)) ⌝ }
+    requires { ⌜ (length (now answers) ≤ mostSteps) × (length (runText (repliesFrom (now answers) (now phases) (now reasons) (now held)) whole) ≤ mostRunText (length (now answers))) ⌝ }
     ensures { λ r. ⌜ Prints (runText (repliesFrom (now (answers .entry)) (now (phases .entry)) (now (reasons .entry)) (now (held .entry))) whole) (now (out .entry)) r (now (out .exit)) ⌝ }
 {
+    if most_text(answers.len()) <= out.len() {
+        return Printed::Text(put_run(answers, phases, reasons, held, whole, out));
+    }
     let length = put_run(answers, phases, reasons, held, whole, &mut out[..0]);
     if out.len() < length {
         return Printed::TooShort;

@@ -130,3 +130,16 @@ pub parts-back : (replies : List Reply) → repliesFrom (map answerTold replies)
 unfolding repliesFrom
 parts-back [] = refl
 parts-back (reply ∷ replies) = ap (λ (l : List Reply). reply ∷ l) (parts-back replies)
+
+-- the fronts of the four lists that a run wrote are its replies
+pub heard : (r : Record) (rows : List StepRow) {count : ℕ} (answers₀ phases₀ reasons₀ held₀ : List ℕ) {answers phases reasons held : List ℕ} → count ≡ length rows
+    → (count ≤ length answers₀) × (count ≤ length phases₀) × (count ≤ length reasons₀) × (count ≤ length held₀)
+    → answers ≡ sets answers₀ 0 (map answerTold (repliesOf r rows)) → phases ≡ sets phases₀ 0 (map phaseTold (repliesOf r rows))
+    → reasons ≡ sets reasons₀ 0 (map reasonTold (repliesOf r rows)) → held ≡ sets held₀ 0 (map heldTold (repliesOf r rows))
+    → repliesFrom (take count answers) (take count phases) (take count reasons) (take count held) ≡ repliesOf r rows
+heard r rows {count} answers₀ phases₀ reasons₀ held₀ {answers} {phases} {reasons} {held} n room a p w h =
+    let told : take count answers ≡ map answerTold (repliesOf r rows) = front-of _ answers₀ (n ∙ sym (told-length answerTold r rows)) (room .0) a in
+    let ps : take count phases ≡ map phaseTold (repliesOf r rows) = front-of _ phases₀ (n ∙ sym (told-length phaseTold r rows)) (room .1) p in
+    let ws : take count reasons ≡ map reasonTold (repliesOf r rows) = front-of _ reasons₀ (n ∙ sym (told-length reasonTold r rows)) (room .2) w in
+    let hs : take count held ≡ map heldTold (repliesOf r rows) = front-of _ held₀ (n ∙ sym (told-length heldTold r rows)) (room .3) h in
+    rw (told, ps, ws, hs) (parts-back (repliesOf r rows))

@@ -1,5 +1,5 @@
 -- The two texts: what `panel` prints and what `where` prints. 01, "Program and one whole run".
-use Prim.Native.Nat.{ℕ, _+_}
+use Prim.Native.Nat.{ℕ, _+_, _*_}
 use mathlib.Core.Bool.{Bool, true, false, cond}
 use mathlib.Core.List.{List, [], _∷_, _++_}
 use lib.ListN.{length, take}
@@ -52,6 +52,10 @@ lastRow false n = panelRow n badFormNo 0 0 0
 -- the text of a run: its replies, and the row of bad form that ended it, if one did
 unfoldable pub runText : List Reply → Bool → List ℕ
 runText replies whole = panelHeader ++ (answerRows 1 replies ++ lastRow whole (length replies + 1))
+
+-- the most bytes of the text of a run of so many steps: the header has 30, and each row, that of bad form too, at most 15
+abbrev pub mostRunText : ℕ → ℕ
+mostRunText steps = 30 + 15 * (steps + 1)
 
 -- "each stands alone after the header"
 unfoldable pub aloneText : ℕ → List ℕ

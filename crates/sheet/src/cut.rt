@@ -1,7 +1,9 @@
 // The field cutter and the row cutter. Each byte is looked at once, in the mode that the bytes before it have led to;
 // nothing is copied.
 ghost use mathlib.Core.Path.{_≡_};
+ghost use mathlib.Core.Bool.{false};
 ghost use Prim.Native.Nat.{_<_, _^_};
+ghost use Rattle.sheet.specs.Bare.{BareUpTo, hasAt};
 ghost use Rattle.grammar.specs.Cut.{emptyAt, upTo, bareMove, shutMove, moveOf, endOf, cutField, pushed, noCells, cutRow};
 use grammar::cut::ByteMove;
 use grammar::cut::Cell;
@@ -191,8 +193,8 @@ fn no_cells() -> Cells
     }
 }
 
-// The row at a position of the sheet.
-pub fn cut_row(s: &[u8], at: usize) -> RowCut
+// The row at a position of the sheet, field by field.
+fn cut_fields(s: &[u8], at: usize) -> RowCut
     ensures { λ r. ⌜ r ≡ cutRow (now (s .entry)) at ⌝ }
 {
     if s.len() <= at {
@@ -214,4 +216,71 @@ pub fn cut_row(s: &[u8], at: usize) -> RowCut
             }
         }
     }
+}
+
+// Where the bytes above the comma end that stand at a position of the sheet. One comparison serves for each byte: quote, comma, CR and LF
+// are all at most the comma, and the few others that are, are left to `cut_fields`.
+fn bare_end(s: &[u8], at: usize) -> usize
+    ensures { λ r. ⌜ BareUpTo (now (s .entry)) at r ⌝ }
+{
+    let mut i = at;
+    while i < s.len() {
+        if s[i] <= COMMA {
+            return i;
+        }
+        i += 1;
+    }
+    i
+}
+
+// Whether this byte stands at a position of the sheet.
+fn has_at(s: &[u8], at: usize, byte: u8) -> bool
+    ensures { λ r. ⌜ r ≡ hasAt (now (s .entry)) at byte ⌝ }
+{
+    if s.len() <= at {
+        return false;
+    }
+    s[at] == byte
+}
+
+// The cell of a field without quotes.
+fn bare_cell(start: usize, end: usize) -> Cell
+    ensures { λ r. ⌜ r ≡ upTo (emptyAt start) end false ⌝ }
+{
+    Cell {
+        start,
+        end,
+        doubled: false,
+    }
+}
+
+// The row at a position of the sheet. Nearly every row has three fields without quotes and ends in CRLF: such a row is cut at its two
+// commas, and any other field by field.
+pub fn cut_row(s: &[u8], at: usize) -> RowCut
+    ensures { λ r. ⌜ r ≡ cutRow (now (s .entry)) at ⌝ }
+{
+    let first = bare_end(s, at);
+    if !has_at(s, first, COMMA) {
+        return cut_fields(s, at);
+    }
+    let second = bare_end(s, first + 1);
+    if !has_at(s, second, COMMA) {
+        return cut_fields(s, at);
+    }
+    let third = bare_end(s, second + 1);
+    if !has_at(s, third, CR) {
+        return cut_fields(s, at);
+    }
+    let feed = third + 1;
+    if !has_at(s, feed, LF) {
+        return cut_fields(s, at);
+    }
+    let next = feed + 1;
+    let cells = Cells {
+        count: 3,
+        first: bare_cell(at, first),
+        second: bare_cell(first + 1, second),
+        third: bare_cell(second + 1, third),
+    };
+    RowCut::Cut(cells, next)
 }

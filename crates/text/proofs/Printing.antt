@@ -22,6 +22,11 @@ prints-long : {text out after : List ℕ} {end : ℕ} → length text ≤ length
 unfolding fitsIn printedOf written
 prints-long {text} {out} h e a = let f = le-leb (length text) (length out) h in record { answer = rw (f, e); list = rw f a }
 
+-- a text is written at once where it is known that it fits: what is told and what the list holds is what measuring it first would give
+pub at-once : {text out after : List ℕ} {end : ℕ} → length text ≤ length out → length out < lastPlace → Wrote out 0 text after end → Prints text out (Text end) after
+unfolding behind
+at-once {text} {end = end} h most w = let p : end ≡ behind 0 (length text) = w .place in prints-long h (omega arith) (w .list)
+
 -- a text that was measured: 13 and nothing written where the list is shorter, else it is written
 pub record Measured (text out whole : List ℕ) (size : ℕ) : Type 0 where
   pub short : length whole < size → Prints text out TooShort whole
@@ -45,7 +50,7 @@ measured {text} {front} {out} {size} w =
     let same : length (front ++ out) ≡ length out = ap length e in
     record {
       short = λ h. subst (λ (l : List ℕ). Prints text out TooShort l) (sym e) (prints-short (omega arith));
-      long = λ {after} {end} h v most. let q : end ≡ behind 0 (length text) = v .place in prints-long (omega arith) (omega arith) (rw e at (v .list));
+      long = λ {after} {end} h v most. at-once (omega arith) (omega (arith, same, most)) (subst (λ (l : List ℕ). Wrote l 0 text after end) e v);
     }
 
 -- the same text, said otherwise

@@ -18,6 +18,10 @@ digits (suc most) n = cond (ltb n 10) (digitByte n ∷ []) (digits most (n / 10)
 unfoldable pub decimal : ℕ → List ℕ
 decimal n = digits n n
 
+-- the two digits of a number below 100
+unfoldable pub pairOf : ℕ → List ℕ
+pairOf n = digitByte (n / 10) ∷ digitByte (n % 10) ∷ []
+
 -- "in CRLF rows": a number and those behind it, with commas between them
 unfoldable pub rowOfNumbers : ℕ → List ℕ → List ℕ
 rowOfNumbers n [] = decimal n ++ (cr ∷ lf ∷ [])

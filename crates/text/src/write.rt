@@ -1,7 +1,8 @@
 // Bytes and numbers as text. Each function writes at a place of a lent list and tells the place behind; what would lie past
 // the list's end is left out, so that a text is measured by writing it into a list of no bytes.
 ghost use mathlib.Core.List.{[], _∷_};
-ghost use Rattle.text.specs.Text.{decimal};
+ghost use Prim.Native.Nat.{_<_};
+ghost use Rattle.text.specs.Text.{decimal, pairOf};
 ghost use Rattle.text.specs.Wrote.{Wrote};
 
 // No place lies behind this one.
@@ -34,13 +35,35 @@ pub fn put_bytes<'a>(out: &'a mut [u8], at: usize, bytes: &'a [u8]) -> usize
     next
 }
 
-// A number, by as many digits as it has.
+// The two digits of a number below 100.
+fn put_pair(out: &mut [u8], at: usize, n: usize) -> usize
+    requires { ⌜ n < 100 ⌝ }
+    ensures { λ r. ⌜ Wrote (now (out .entry)) at (pairOf n) (now (out .exit)) r ⌝ }
+{
+    let next = put(out, at, b'0' + (n / 10) as u8);
+    put(out, next, b'0' + (n % 10) as u8)
+}
+
+// A number of any length: the digits of its hundredth, and then two more.
+fn put_long(out: &mut [u8], at: usize, n: usize) -> usize
+    ensures { λ r. ⌜ Wrote (now (out .entry)) at (decimal n) (now (out .exit)) r ⌝ }
+{
+    if 100 <= n {
+        let next = put_long(out, at, n / 100);
+        return put_pair(out, next, n % 100);
+    }
+    if 10 <= n {
+        return put_pair(out, at, n);
+    }
+    put(out, at, b'0' + n as u8)
+}
+
+// A number, by as many digits as it has. One digit, as nearly every number here has, is put without a call of `put_long`.
 pub fn put_number(out: &mut [u8], at: usize, n: usize) -> usize
     ensures { λ r. ⌜ Wrote (now (out .entry)) at (decimal n) (now (out .exit)) r ⌝ }
 {
     if n < 10 {
         return put(out, at, b'0' + n as u8);
     }
-    let next = put_number(out, at, n / 10);
-    put(out, next, b'0' + (n % 10) as u8)
+    put_long(out, at, n)
 }

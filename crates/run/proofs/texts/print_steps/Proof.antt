@@ -1,14 +1,19 @@
 -- `print_steps` meets its contract: the steps are run, and their answers printed. Assumes nothing.
 use mathlib.Core.Path.{_≡_, sym, ap, _∙_}
-use mathlib.Core.List.{map}
+use Prim.Native.Nat.{_≤_}
 use native.Mathlib.Omega.{arith}
 use lib.ListN.{length, take}
 use lib.Seq.{length-take-le}
-use Rattle.record.specs.Run.{repliesOf, answerTold, phaseTold, reasonTold, heldTold}
+use Rattle.record.specs.Run.{repliesOf}
 use Rattle.run_text.specs.declared.serve.Served.{Served}
 use Rattle.steps_sheet.specs.Steps.{stepsFrom}
 use Rattle.steps_sheet.specs.Lent.{mostSteps}
-use Rattle.run_text.proofs.Serving.{told-length, front-of, parts-back}
+use Rattle.run_text.specs.Printed.{repliesFrom, runText, mostRunText}
+use Rattle.steps_sheet.specs.Says.{Steps}
+use Rattle.record.specs.Doors.{Shaped}
+use Rattle.record.proofs.Tells.{sound-tells}
+use Rattle.run_text.proofs.Serving.{heard}
+use Rattle.run_text.proofs.Fits.{run-short}
 use borrow.Author.Needs.{needs}
 use Rattle.run.proofs.texts.print_steps.Statement.{statement}
 use Rattle.run.proofs.texts.print_steps.Tie as tie
@@ -76,6 +81,43 @@ slice-aggregate-print-run-4 c =
     let long : mostSteps ≡ length (c .before .before .before .before .before .before .before .before .serve .last .1 .1 .1 .1 .1 .1 .0) = search needs in
     sym (length-take-le _ _ (omega arith))
 
+-- the steps that were run, how many there are, and that the sheet ends behind them
+steps : tie.After-serve → Steps
+steps c = stepsFrom (c .before .before .before .before .before .before .before .before .before .before .before .args .s .now) (c .before .before .before .before .before .before .before .before .before .before .before .args .from)
+
+count-is : (c : tie.After-serve) → c .serve .result .count ≡ length (steps c .rows)
+unfolding steps
+count-is c = ap (λ (x : Served). x .count) (c .serve .ensures .0)
+
+whole-is : (c : tie.After-serve) → c .serve .result .whole ≡ steps c .whole
+unfolding steps
+whole-is c = ap (λ (x : Served). x .whole) (c .serve .ensures .0)
+
+-- the fronts of the four lists are the replies of the steps
+replies-are : (c : tie.After-serve) → repliesFrom (take (c .serve .result .count) (c .serve .last .1 .1 .1 .0)) (take (c .serve .result .count) (c .serve .last .1 .1 .1 .1 .0)) (take (c .serve .result .count) (c .serve .last .1 .1 .1 .1 .1 .0)) (take (c .serve .result .count) (c .serve .last .1 .1 .1 .1 .1 .1 .0)) ≡ repliesOf (c .before .before .before .before .before .before .before .before .before .before .before .args .fresh) (steps c .rows)
+unfolding steps
+replies-are c =
+    let s = c .serve in
+    let few = s .ensures .1 .0 in
+    let in-answers = c .before .before .before .before .before .before .before .before .blank-bytes in
+    let in-phases = c .before .before .before .before .before .before .before .blank-bytes2 in
+    let in-reasons = c .before .before .before .before .before .before .blank-bytes3 in
+    let in-held = c .before .before .before .before .before .blank-held in
+    heard (c .before .before .before .before .before .before .before .before .before .before .before .args .fresh) (steps c .rows) (in-answers .result) (in-phases .result) (in-reasons .result) (in-held .result) (count-is c)
+    (omega (arith, few, in-answers .ensures), omega (arith, few, in-phases .ensures), omega (arith, few, in-reasons .ensures), omega (arith, few, in-held .ensures))
+    (s .ensures .1 .1 .0) (s .ensures .1 .1 .1 .0) (s .ensures .1 .1 .1 .1 .0) (s .ensures .1 .1 .1 .1 .1)
+
+shaped : (c : tie.Start) → Shaped (c .args .fresh)
+shaped c = search needs
+
+-- their text is short
+text-short : (c : tie.After-serve) → length (runText (repliesOf (c .before .before .before .before .before .before .before .before .before .before .before .args .fresh) (steps c .rows)) (c .serve .result .whole)) ≤ mostRunText (c .serve .result .count)
+text-short c =
+    let few = c .serve .ensures .1 .0 in
+    let count = count-is c in
+    let short = run-short (c .before .before .before .before .before .before .before .before .before .before .before .args .fresh) (shaped (c .before .before .before .before .before .before .before .before .before .before .before)) (sound-tells _ (shaped (c .before .before .before .before .before .before .before .before .before .before .before)) .yes (c .before .before .before .before .before .before .before .before .before .before .before .pre .0)) (steps c .rows) (c .serve .result .whole) (omega (arith, few, count)) in
+    omega (arith, short, count)
+
 print-run-requires : tie.Need-print-run-requires
 print-run-requires c κs =
     let s = c .before .before .before .before .before .before .before .before .before .serve in
@@ -88,28 +130,14 @@ print-run-requires c κs =
     let p = length-take-le (s .result .count) (s .last .1 .1 .1 .1 .0) (omega arith) in
     let r = length-take-le (s .result .count) (s .last .1 .1 .1 .1 .1 .0) (omega arith) in
     let h = length-take-le (s .result .count) (s .last .1 .1 .1 .1 .1 .1 .0) (omega arith) in
-    (p ∙ sym a, r ∙ sym a, h ∙ sym a)
+    ((p ∙ sym a, r ∙ sym a, h ∙ sym a), (omega (arith, a, few), rw (replies-are (c .before .before .before .before .before .before .before .before .before), a) (text-short (c .before .before .before .before .before .before .before .before .before))))
 
 same-length : tie.Need-same-length
 same-length c = search needs
 
 returns : tie.Need-returns
-returns c =
-    let a = c .before .before .before .before .before .before .before .before .before .before .before .before .before .before .before .before .before .before .before .before .before .before .before .args in
-    let s = c .before .before .before .before .before .before .before .before .before .before .before .before .serve in
-    let steps = stepsFrom (a .s .now) (a .from) in
-    let few = s .ensures .1 .0 in
-    let in-answers = c .before .before .before .before .before .before .before .before .before .before .before .before .before .before .before .before .before .before .before .before .blank-bytes in
-    let in-phases = c .before .before .before .before .before .before .before .before .before .before .before .before .before .before .before .before .before .before .before .blank-bytes2 in
-    let in-reasons = c .before .before .before .before .before .before .before .before .before .before .before .before .before .before .before .before .before .before .blank-bytes3 in
-    let in-held = c .before .before .before .before .before .before .before .before .before .before .before .before .before .before .before .before .before .blank-held in
-    let count : s .result .count ≡ length (steps .rows) = ap (λ (x : Served). x .count) (s .ensures .0) in
-    let whole : s .result .whole ≡ steps .whole = ap (λ (x : Served). x .whole) (s .ensures .0) in
-    let answers : take (s .result .count) (s .last .1 .1 .1 .0) ≡ map answerTold (repliesOf (a .fresh) (steps .rows)) = front-of _ (in-answers .result) (count ∙ sym (told-length answerTold (a .fresh) (steps .rows))) (omega (arith, in-answers .ensures)) (s .ensures .1 .1 .0) in
-    let phases : take (s .result .count) (s .last .1 .1 .1 .1 .0) ≡ map phaseTold (repliesOf (a .fresh) (steps .rows)) = front-of _ (in-phases .result) (count ∙ sym (told-length phaseTold (a .fresh) (steps .rows))) (omega (arith, in-phases .ensures)) (s .ensures .1 .1 .1 .0) in
-    let reasons : take (s .result .count) (s .last .1 .1 .1 .1 .1 .0) ≡ map reasonTold (repliesOf (a .fresh) (steps .rows)) = front-of _ (in-reasons .result) (count ∙ sym (told-length reasonTold (a .fresh) (steps .rows))) (omega (arith, in-reasons .ensures)) (s .ensures .1 .1 .1 .1 .0) in
-    let held : take (s .result .count) (s .last .1 .1 .1 .1 .1 .1 .0) ≡ map heldTold (repliesOf (a .fresh) (steps .rows)) = front-of _ (in-held .result) (count ∙ sym (told-length heldTold (a .fresh) (steps .rows))) (omega (arith, in-held .ensures)) (s .ensures .1 .1 .1 .1 .1) in
-    rw (answers, phases, reasons, held, whole, parts-back (repliesOf (a .fresh) (steps .rows))) at (c .before .before .print-run .ensures)
+unfolding steps
+returns c = rw (replies-are (c .before .before .before .before .before .before .before .before .before .before .before .before), whole-is (c .before .before .before .before .before .before .before .before .before .before .before .before)) at (c .before .before .print-run .ensures)
 
 pub print-steps-spec : {M : Type 1} → statement M
 print-steps-spec =

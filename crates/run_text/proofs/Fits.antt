@@ -1,8 +1,8 @@
--- Every text that the two programs print fits into the list that they lend: what is told of a step is short. Assumes nothing.
+-- The rows of the two texts are short, since what is told of a step is: a run's text is at most `mostRunText` long. Assumes nothing.
 use Prim.Native.Nat.{ℕ, suc, _+_, _*_, _≤_, _<_}
 use mathlib.Core.Path.{_≡_, refl, ap}
 use mathlib.Core.Bool.{Bool, true, false}
-use mathlib.Core.List.{List, [], _∷_}
+use mathlib.Core.List.{List, [], _∷_, _++_}
 use native.Mathlib.Omega.{arith}
 use borrow.Author.Tests.{ltb-true, ltb-false}
 use lib.Dec.{eqb, ltb}
@@ -30,9 +30,10 @@ use Rattle.record.proofs.Laws.{step-cases, act-done, act-held-door, sound-stays
 use Rattle.table_answers.specs.Answers.{IsReason, none, away, barred, busy, DoesTells}
 use Rattle.table_answers.proofs.Doors.{effect-told}
 use Rattle.text.specs.Text.{decimal, rowOfNumbers}
-use Rattle.run_text.specs.Printed.{panelRow, answerRows, placeRows}
+use Rattle.run_text.specs.Printed.{panelHeader, panelRow, answerRows, lastRow, runText, mostRunText, placeRows}
 use Rattle.text.proofs.Decimal.{one-digit, two-digits, four-digits}
 use Rattle.text.proofs.Rows.{last-length, more-length}
+use Rattle.run_text.proofs.Serving.{replies-length}
 
 -- ---- what is told of a step is short
 
@@ -133,6 +134,23 @@ rows-short r sh s (first ∷ rows) n h =
     let one = row-short n (answerNo (step .answer)) (step .phase) (step .reason) (step .held) (omega arith) (told .phase-short) (told .reason-short) (told-digits r s (first .kind) (first .at) (first .person)) in
     let rest = rows-short (step .next) (shaped-stays r (first .kind) (first .at) (first .person) sh) (sound-stays r (first .kind) (first .at) (first .person) sh s) rows (n + 1) (omega arith) in
     let l = length-append (panelRow n (answerNo (step .answer)) (step .phase) (step .reason) (step .held)) (answerRows (n + 1) (repliesOf (step .next) rows)) in
+    omega arith
+
+last-short : (whole : Bool) (n : ℕ) → n < 10000 → length (lastRow whole n) ≤ 15
+last-short true n h = omega arith
+last-short false n h = let a = one-digit 2 (omega arith) in let z = one-digit 0 (omega arith) in row-short n 2 0 0 0 h (omega arith) (omega arith) (omega arith)
+
+-- the text of a run of so many steps, and perhaps a row of bad form
+pub run-short : (r : Record) → Shaped r → Sound r → (rows : List StepRow) (whole : Bool) → length rows < 9999
+    → length (runText (repliesOf r rows) whole) ≤ mostRunText (length rows)
+unfolding runText
+run-short r sh s rows whole h =
+    let replies = repliesOf r rows in
+    let told = replies-length r rows in
+    let short = rows-short r sh s rows 1 (omega arith) in
+    let bad = last-short whole (length replies + 1) (omega arith) in
+    let l = length-append panelHeader (answerRows 1 replies ++ lastRow whole (length replies + 1)) in
+    let m = length-append (answerRows 1 replies) (lastRow whole (length replies + 1)) in
     omega arith
 
 -- ---- the rows of the people

@@ -1,0 +1,2 @@
+-- `Bare`: a row of three bare fields, cut at its commas.
+pub mod Bare

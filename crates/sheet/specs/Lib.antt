@@ -1,0 +1,2 @@
+-- `Bare`: what the row cutter's short way looks for.
+pub mod Bare
