@@ -56,7 +56,8 @@ PARTS = {
     "syslog_read": ["Syslog"],
     "stream_rows": ["Syslog"],
     "stream_lists": ["Syslog", "Run"],
-    "stream": ["Run"],
+    "stream": ["Run", "Live"],
+    "attend": ["Live"],
 }
 # The crates whose specs/ say demand 1 and the uniqueness of answers, and the two records of `demands` that hold all their parts.
 SAID_IN = ["sheet_answers", "syslog_answers", "table_answers", "record_answers", "demands"]

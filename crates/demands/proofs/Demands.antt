@@ -51,6 +51,7 @@ use Rattle.record_answers.proofs.Unique.{sound-unique, record-unique}
 use Rattle.demands.proofs.DemandOne.{of-site}
 use Rattle.demands.proofs.StepsSheet.{of-steps}
 use Rattle.demands.proofs.Texts.{of-run}
+use Rattle.demands.proofs.Rows.{of-live, live-unique}
 use Rattle.demands.proofs.DemandTwo.{way-of, after-steps, asks-after, is-event, decided, held-grant, starts, tables-stay, run-tables-stay, alters, green-ordered, red-ordered, green-counts, red-counts}
 use Rattle.demands.proofs.Bytes.{printed-as-served}
 use Rattle.card_by_card.proofs.DemandThree as three
@@ -78,6 +79,7 @@ demand-1 =
       of-site = of-site;
       of-steps = of-steps;
       of-run = of-run;
+      of-live = of-live;
     }
 
 -- "2. A site sheet is accepted exactly when it obeys the written rules, and its record holds what its rows say, so everybody has a
@@ -156,6 +158,7 @@ answers-unique =
       of-site = site-unique;
       of-steps = steps-unique;
       of-run = run-unique;
+      of-live = live-unique;
       of-the-papers = papers-unique;
     }
 

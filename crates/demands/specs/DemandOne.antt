@@ -2,7 +2,7 @@
 -- from the papers. A refusal alters no record and no list lent to it." Each field is a public function, and says what follows of
 -- the definition that its promise cites. A function that answers no number tells a place or a fact: the place is there, the fact
 -- is told exactly where its field has `Tells`, `Answers` or `↔`. The parts of the site sheet, of the steps sheet and of what is
--- printed are here. The others are in `sheet_answers/specs/Answers.antt`, `syslog_answers/specs/Answers.antt`,
+-- printed are here, and that of rows that come is in `specs/Rows.antt`. The others are in `sheet_answers/specs/Answers.antt`, `syslog_answers/specs/Answers.antt`,
 -- `table_answers/specs/Answers.antt`, and `record_answers/specs/Answers.antt`, `record_answers/specs/Deeds.antt` and
 -- `record_answers/specs/Enums.antt`.
 use Prim.Native.Nat.{ℕ, _+_, _*_, _≤_, _<_}
@@ -53,6 +53,7 @@ use Rattle.table_answers.specs.Answers.{TablesAnswers, RulesAnswers, DoorAnswer
 use Rattle.record_answers.specs.Answers.{SoundAnswers, RecordAnswers}
 use Rattle.record_answers.specs.Deeds.{DeedsAnswers}
 use Rattle.record_answers.specs.Enums.{EnumAnswers}
+use Rattle.demands.specs.Rows.{LiveAnswers}
 
 -- ---- crates `verdict`, `site_row`, `site_tables` and `site`
 
@@ -167,3 +168,4 @@ pub record DemandOne : Type 0 where
   pub of-site : SiteAnswers
   pub of-steps : StepsAnswers
   pub of-run : RunAnswers
+  pub of-live : LiveAnswers

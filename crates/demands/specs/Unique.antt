@@ -45,6 +45,7 @@ use Rattle.table_answers.specs.Unique.{TablesUnique, RulesUnique, DoorUnique}
 use Rattle.record_answers.specs.Unique.{SoundUnique, RecordUnique}
 use Rattle.record_answers.specs.Deeds.{DeedsUnique}
 use Rattle.record_answers.specs.Enums.{EnumUnique}
+use Rattle.demands.specs.Rows.{LiveUnique}
 
 pub record SiteUnique : Type 0 where
   pub site-line-of : (s : List ℕ) (cells : Cells) → Unique (λ (x : SiteLine). x ≡ siteLineAt s cells)
@@ -104,4 +105,5 @@ pub record AnswersUnique : Type 0 where
   pub of-site : SiteUnique
   pub of-steps : StepsUnique
   pub of-run : RunUnique
+  pub of-live : LiveUnique
   pub of-the-papers : PapersUnique

@@ -73,7 +73,7 @@ act-small r k d p why (Turns c told) h w m =
 act-small r k d p why (Moves c) h w m =
     let is = ap (λ (x : Door). x .phase) (m .moves c .0 refl .1) in record { phase-short = omega arith; reason-short = omega arith }
 
-told-short : (r : Record) → Sound r → (k : Kind) (d p : ℕ) → ToldShort (stepOf r k d p)
+pub told-short : (r : Record) → Sound r → (k : Kind) (d p : ℕ) → ToldShort (stepOf r k d p)
 unfolding stepOf soundStep
 told-short r s k d p =
     either ToldShort (soundB r)
@@ -112,16 +112,21 @@ told-digits r s k d p =
 
 -- ---- the rows of a run
 
-pub row-short : (n a p r x : ℕ) → n < 10000 → p ≤ 9 → r ≤ 3 → length (decimal a) + length (decimal x) ≤ 3 → length (panelRow n a p r x) ≤ 15
-row-short n a p r x hn hp hr hd =
+pub row-length : (n a p r x : ℕ) → p ≤ 9 → r ≤ 3 → length (decimal a) + length (decimal x) ≤ 3 → length (panelRow n a p r x) ≤ length (decimal n) + 11
+row-length n a p r x hp hr hd =
     let l = more-length n a (p ∷ r ∷ x ∷ []) in
     let m = more-length a p (r ∷ x ∷ []) in
     let o = more-length p r (x ∷ []) in
     let q = more-length r x [] in
     let w = last-length x in
-    let dn = four-digits n hn in
     let dp = one-digit p (omega arith) in
     let dr = one-digit r (omega arith) in
+    omega arith
+
+pub row-short : (n a p r x : ℕ) → n < 10000 → p ≤ 9 → r ≤ 3 → length (decimal a) + length (decimal x) ≤ 3 → length (panelRow n a p r x) ≤ 15
+row-short n a p r x hn hp hr hd =
+    let l = row-length n a p r x hp hr hd in
+    let dn = four-digits n hn in
     omega arith
 
 pub rows-short : (r : Record) → Shaped r → Sound r → (rows : List StepRow) (n : ℕ) → n + length rows ≤ 10000

@@ -144,6 +144,10 @@ unfolding personIn sameBytes
 told-person {k} {c} (a-person q n) = rw q (proper-read c n)
 told-person (nobody q) = rw q
 
+-- what a row says is one of the ten steps
+pub said-is-step : {r : Row} {step : StepRow} → SaysStep r step → isStep (step .kind) ≡ true
+said-is-step says = word-kind (says .word) .1
+
 module _ (r : Row) where
   -- a row that is a step says it
   pub says-line : {step : StepRow} → SaysStep r step → stepFrom r ≡ Step (step .kind) (step .at) (step .person)

@@ -1,6 +1,6 @@
 // The events of a run as frames, row after row.
 ghost use mathlib.Core.Path.{_≡_};
-ghost use lib.ListN.{replicate};
+ghost use lib.ListN.{getD, set, replicate};
 ghost use Rattle.tables.specs.Tables.{mostDoors};
 ghost use Rattle.text.specs.Wrote.{Wrote};
 ghost use Rattle.syslog.specs.Line.{framedOf};
@@ -17,7 +17,7 @@ use syslog_write::put_frame;
 use tables::MOST_DOORS;
 
 // Whose card is at each door before any is taken: 0, which no event tells, since a card is taken before.
-fn no_cards() -> [u16; MOST_DOORS]
+pub fn no_cards() -> [u16; MOST_DOORS]
     ensures { λ r. ⌜ r ≡ replicate mostDoors 0 ⌝ }
 {
     [0; MOST_DOORS]
@@ -112,6 +112,39 @@ fn card_after(kind: Kind, answer: u8, person: u16, was: u16) -> u16
     }
 }
 
+// One step's event: its frame is written at a place of the list, if it gives one, and the list of cards has whose card is at its door
+// afterwards.
+pub fn put_event<'a>(
+    cards: &'a mut [u16],
+    kind: Kind,
+    answer: u8,
+    phase: u8,
+    reason: u8,
+    held: usize,
+    door: usize,
+    person: u16,
+    out: &'a mut [u8],
+    at: usize,
+) -> usize
+    ensures wrote { λ r. ⌜ Wrote (now (out .entry)) at (toldText kind answer phase reason held door (getD (now (cards .entry)) door 0)) (now (out .exit)) r ⌝ }
+    ensures cards { λ _. ⌜ now (cards .exit) ≡ set (now (cards .entry)) door (cardAfter kind answer person (getD (now (cards .entry)) door 0)) ⌝ }
+{
+    let card = word_at(cards, door);
+    let next = put_told(
+        out,
+        at,
+        kind,
+        answer,
+        phase,
+        reason,
+        held,
+        door,
+        card as usize,
+    );
+    put_word(cards, door, card_after(kind, answer, person, card));
+    next
+}
+
 // The frames of a run's events, in the order of its rows.
 pub(crate) fn put_events<'a>(
     kinds: &'a [u8],
@@ -132,23 +165,22 @@ pub(crate) fn put_events<'a>(
     while i < kinds.len() {
         let kind = Kind::of(kinds[i]);
         let answer = byte_at(answers, i);
-        let door = word_at(doors, i) as usize;
-        let card = word_at(&cards, door);
         let phase = byte_at(phases, i);
         let reason = byte_at(reasons, i);
-        next = put_told(
-            out,
-            next,
+        let door = word_at(doors, i) as usize;
+        let person = word_at(persons, i);
+        next = put_event(
+            &mut cards,
             kind,
             answer,
             phase,
             reason,
             held[i],
             door,
-            card as usize,
+            person,
+            out,
+            next,
         );
-        let holds = card_after(kind, answer, word_at(persons, i), card);
-        put_word(&mut cards, door, holds);
         i += 1;
     }
     next

@@ -129,10 +129,10 @@ spell-person line n s = go (eqb (line .reply .answer) 0) refl (line .row .kind) 
     go true e Unknown is = rw (e, is)
 
 -- a list has the person of each door's card
-abbrev Cards : (ℕ → Spell) → List ℕ → Type 0
+abbrev pub Cards : (ℕ → Spell) → List ℕ → Type 0
 Cards spells cards = (d : ℕ) → d < mostDoors → spells d .person ≡ getD cards d 0
 
-cards-after : (spells : ℕ → Spell) (n : ℕ) (line : Line) (cards : List ℕ) → length cards ≡ mostDoors → Cards spells cards
+pub cards-after : (spells : ℕ → Spell) (n : ℕ) (line : Line) (cards : List ℕ) → length cards ≡ mostDoors → Cards spells cards
     → Cards (spellsAfter spells n line)
     (set cards (line .row .at) (cardAfter (line .row .kind) (line .reply .answer) (line .row .person) (getD cards (line .row .at) 0)))
 cards-after spells n line cards long shown d h =
@@ -155,12 +155,25 @@ any-row Freed n d p = refl
 any-row Nothing n d p = refl
 
 -- streams one behind the other
-stream-both : (es fs : List RunEvent) → streamOf (map lineEvent (es ++ fs)) ≡ streamOf (map lineEvent es) ++ streamOf (map lineEvent fs)
+pub stream-both : (es fs : List RunEvent) → streamOf (map lineEvent (es ++ fs)) ≡ streamOf (map lineEvent es) ++ streamOf (map lineEvent fs)
 unfolding streamOf
 stream-both [] fs = refl
 stream-both (e ∷ es) fs =
     ap (λ (t : List ℕ). framedOf (lineEvent e) ++ t) (stream-both es fs)
     ∙ sym (append-assoc (framedOf (lineEvent e)) (streamOf (map lineEvent es)) (streamOf (map lineEvent fs)))
+
+-- a line writes what its step writes with the person whom the list has
+pub line-writes : (line : Line) (n : ℕ) (spells : ℕ → Spell) (cards : List ℕ) → Cards spells cards → (line .reply .answer ≡ 0 → line .row .at < mostDoors)
+    → streamOf (map lineEvent (eventBy (meaningOf line) n (line .row .at) (spells (line .row .at) .person)))
+    ≡ toldText (line .row .kind) (line .reply .answer) (line .reply .phase) (line .reply .reason) (line .reply .held) (line .row .at) (getD cards (line .row .at) 0)
+unfolding toldText meaningOf eventBy streamOf
+line-writes line n spells cards shown exists = ap streamOf (any-row (meaningOf line) n (line .row .at) (spells (line .row .at) .person)) ∙ go (eqb (line .reply .answer) 0) refl
+  where
+    go : (b : Bool) → eqb (line .reply .answer) 0 ≡ b
+        → streamOf (map lineEvent (eventBy (meaningOf line) 0 (line .row .at) (spells (line .row .at) .person)))
+        ≡ streamOf (map lineEvent (eventBy (meaningOf line) 0 (line .row .at) (getD cards (line .row .at) 0)))
+    go true e = rw (shown (line .row .at) (exists (eqb-true _ _ e)))
+    go false e = rw e
 
 module _ {kinds doors persons answers phases reasons held : List ℕ} (heard : Heard kinds doors persons answers phases reasons held) (i : ℕ) (inside : i < length kinds) where
   -- the line of row i
@@ -181,20 +194,6 @@ module _ {kinds doors persons answers phases reasons held : List ℕ} (heard : H
 
   abbrev restFrom : (ℕ → Spell) → List ℕ
   restFrom spells = streamOf (map lineEvent (eventsOf spells (i + 1 + 1) (linesFrom (drop (i + 1) kinds) (drop (i + 1) doors) (drop (i + 1) persons) (drop (i + 1) answers) (drop (i + 1) phases) (drop (i + 1) reasons) (drop (i + 1) held))))
-
-  -- it writes what its step writes with the person whom the list has
-  line-writes : (spells : ℕ → Spell) (cards : List ℕ) → Cards spells cards
-      → streamOf (map lineEvent (eventBy (meaningOf lineAt) (i + 1) (getD doors i 0) (spells (getD doors i 0) .person)))
-      ≡ toldText (kindOf (getD kinds i 0)) (getD answers i 0) (getD phases i 0) (getD reasons i 0) (getD held i 0) (getD doors i 0) (getD cards (getD doors i 0) 0)
-  unfolding toldText meaningOf eventBy streamOf
-  line-writes spells cards shown =
-      ap streamOf (any-row (meaningOf lineAt) (i + 1) (getD doors i 0) (spells (getD doors i 0) .person)) ∙ go (eqb (getD answers i 0) 0) refl
-    where
-      go : (b : Bool) → eqb (getD answers i 0) 0 ≡ b
-          → streamOf (map lineEvent (eventBy (meaningOf lineAt) 0 (getD doors i 0) (spells (getD doors i 0) .person)))
-          ≡ streamOf (map lineEvent (eventBy (meaningOf lineAt) 0 (getD doors i 0) (getD cards (getD doors i 0) 0)))
-      go true e = rw (shown (getD doors i 0) (heard .exists i inside (eqb-true _ _ e)))
-      go false e = rw e
 
 -- the loop has come to row i; the list has the person of each door's card
 pub record Eventing (kinds doors persons answers phases reasons held before out cards : List ℕ) (next i : ℕ) : Type 0 where
@@ -235,7 +234,7 @@ events-more {kinds} {doors} {persons} {answers} {phases} {reasons} {held} {cards
           more (here .pending)
           (ap (λ (lines : List Line). streamOf (map lineEvent (eventsOf (here .spells) (i + 1) lines))) (lines-cons heard i inside)
           ∙ (stream-both (eventBy (meaningOf line) (i + 1) (getD doors i 0) (here .spells (getD doors i 0) .person)) _
-          ∙ ap (λ (t : List ℕ). t ++ restFrom heard i inside (spellsAfter (here .spells) (i + 1) line)) (line-writes heard i inside (here .spells) cards (here .shown))))
+          ∙ ap (λ (t : List ℕ). t ++ restFrom heard i inside (spellsAfter (here .spells) (i + 1) line)) (line-writes line (i + 1) (here .spells) cards (here .shown) (heard .exists i inside))))
           (rw (was, k, a, ph, why, h, at) at w);
     }
 

@@ -86,14 +86,17 @@ done-0 TooShort e = absurd (omega arith)
 done-0 Unsound e = absurd (omega arith)
 
 -- the door of a step that was done exists
+pub done-door : (r : Record) → Sound r → (row : StepRow) → answerNo (rowOf r row .answer) ≡ 0 → row .at < mostDoors
+done-door r s row e =
+    let there = done-did r (row .kind) (row .at) (row .person) (done-0 _ e) .0 .a-door in
+    let most = s .tables .in-range .doors-to in
+    omega arith
+
 door-exists : (rows : List StepRow) (r : Record) → Shaped r → Sound r → (i : ℕ) → i < length rows → getD (map answerTold (repliesOf r rows)) i 0 ≡ 0
     → getD (map (λ (row : StepRow). row .at) rows) i 0 < mostDoors
 unfolding repliesOf
 door-exists [] r sh s i h e = absurd (omega arith)
-door-exists (row ∷ rows) r sh s zero h e =
-    let there = done-did r (row .kind) (row .at) (row .person) (done-0 _ e) .0 .a-door in
-    let most = s .tables .in-range .doors-to in
-    omega arith
+door-exists (row ∷ rows) r sh s zero h e = done-door r s row e
 door-exists (row ∷ rows) r sh s (suc i) h e =
     door-exists rows (rowOf r row .next) (shaped-stays r (row .kind) (row .at) (row .person) sh) (sound-stays r (row .kind) (row .at) (row .person) sh s) i
     (omega arith) e

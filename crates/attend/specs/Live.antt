@@ -1,0 +1,54 @@
+-- A steps sheet that comes row by row, and what the panel's own loop prints of it.
+use Prim.Native.Nat.{ℕ, _+_}
+use mathlib.Core.Path.{_≡_}
+use mathlib.Core.Bool.{cond}
+use mathlib.Core.List.{List, [], _∷_, _++_}
+use lib.ListN.{getD, set}
+use Rattle.grammar.specs.Grammar.{Row, RowAt}
+use Rattle.phases.specs.Answers.{answerNo}
+use Rattle.record.specs.declared.record.Record.{Record}
+use Rattle.record.specs.declared.steps.Step.{Step}
+use Rattle.record.specs.Steps.{toldBy}
+use Rattle.steps_sheet.specs.Steps.{isStep}
+use Rattle.stream_text.specs.Rows.{toldText, cardAfter}
+use Rattle.attend.specs.declared.RowAsks.{RowAsks}
+use Rattle.attend.specs.Attend.{askedIn, stepAsked, shownRow}
+
+-- a text comes in these rows: each row with the CRLF behind it, and what begins with no row whole, as one more
+pub data InRows : List ℕ → List (List ℕ) → Type 0 where
+  no-more : InRows [] []
+  a-row : {text row rest : List ℕ} {r : Row} {rows : List (List ℕ)} → RowAt text r rest → RowAt row r [] → text ≡ row ++ rest → InRows rest rows → InRows text (row ∷ rows)
+  no-row : {text : List ℕ} → (text ≡ [] → ⊥) → ((r : Row) (rest : List ℕ) → RowAt text r rest → ⊥) → InRows text (text ∷ [])
+
+pub record ComesInRows (text : List ℕ) : Type 0 where
+  pub rows : List (List ℕ)
+  pub in-rows : InRows text rows
+
+-- the rows that are printed, from row n on: one for each row that comes, up to one of bad form
+unfoldable pub liveRows : Record → ℕ → List (List ℕ) → List ℕ
+liveRows r n [] = []
+liveRows r n (row ∷ rows) =
+    shownRow n (askedIn row) (toldBy (stepAsked r (askedIn row)))
+    ++ cond (isStep (askedIn row .kind)) (liveRows (stepAsked r (askedIn row) .next) (n + 1) rows) []
+
+-- the record afterwards
+unfoldable pub liveLast : Record → List (List ℕ) → Record
+liveLast r [] = r
+liveLast r (row ∷ rows) = cond (isStep (askedIn row .kind)) (liveLast (stepAsked r (askedIn row) .next) rows) (stepAsked r (askedIn row) .next)
+
+-- the frames of the events that are written beside the rows, `cards` having the person whose card is at each door
+abbrev pub frameOf : List ℕ → RowAsks → Step → List ℕ
+frameOf cards asked step =
+    toldText (asked .kind) (answerNo (step .answer)) (step .phase) (step .reason) (step .held) (asked .door) (getD cards (asked .door) 0)
+
+abbrev pub cardsAfter : List ℕ → RowAsks → Step → List ℕ
+cardsAfter cards asked step =
+    set cards (asked .door) (cardAfter (asked .kind) (answerNo (step .answer)) (asked .person) (getD cards (asked .door) 0))
+
+unfoldable pub liveFrames : Record → List ℕ → List (List ℕ) → List ℕ
+liveFrames r cards [] = []
+liveFrames r cards (row ∷ rows) =
+    cond (isStep (askedIn row .kind))
+    (frameOf cards (askedIn row) (stepAsked r (askedIn row))
+    ++ liveFrames (stepAsked r (askedIn row) .next) (cardsAfter cards (askedIn row) (stepAsked r (askedIn row))) rows)
+    []

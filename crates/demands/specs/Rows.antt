@@ -1,0 +1,54 @@
+-- Demand 1, and that answers are unique, of rows that are answered as they come: crate `attend`, and of crate `stream` the events that are written
+-- one by one.
+use Prim.Native.Nat.{ℕ, _^_, _≤_, _<_}
+use mathlib.Core.Path.{_≡_}
+use mathlib.Core.List.{List}
+use lib.ListN.{length, getD, set, replicate}
+use Rattle.numbers.specs.Numbers.{doneNo}
+use Rattle.numbers.specs.Telling.{Unique}
+use Rattle.tables.specs.Tables.{mostDoors}
+use Rattle.phases.specs.declared.table.Kind.{Kind}
+use Rattle.phases.specs.Answers.{answerNo}
+use Rattle.record.specs.declared.record.Record.{Record}
+use Rattle.record.specs.Doors.{Shaped}
+use Rattle.record.specs.Steps.{toldBy}
+use Rattle.steps_sheet.specs.declared.StepsLine.the-variants as line
+use Rattle.text.specs.Wrote.{Wrote}
+use Rattle.sheet_answers.specs.Answers.{TextWritten}
+use Rattle.stream_text.specs.Rows.{toldText, cardAfter}
+use Rattle.attend.specs.declared.Attended.{Attended}
+use Rattle.attend.specs.declared.Turn.{Turn}
+use Rattle.attend.specs.Attend.{rowSays, askedIn, stepAsked, shownRow, Attends}
+
+-- a row of bad form and a row whose step is refused leave the record as it was; the row to print stands at the front of the list, and in a list of
+-- 31 bytes it has room, its number having 20 digits at most
+pub record AttendTells (r : Record) (row : List ℕ) (n : ℕ) (before : List ℕ) (attended : Attended) (next : Record) (after : List ℕ) : Type 0 where
+  pub bad-form : rowSays row ≡ line.Bad → next ≡ r
+  pub refused : (answerNo (attended .told .answer) ≡ doneNo → ⊥) → next ≡ r
+  pub written : TextWritten before 0 (shownRow n (askedIn row) (toldBy (stepAsked r (askedIn row)))) after (attended .length)
+  pub short : Shaped r → n < 10 ^ 20 → length (shownRow n (askedIn row) (toldBy (stepAsked r (askedIn row)))) ≤ 31
+
+pub record LiveAnswers : Type 0 where
+  pub attend : (r : Record) (row : List ℕ) (n : ℕ) (before : List ℕ) (attended : Attended) (next : Record) (after : List ℕ) → Attends r row n before attended next after
+      → AttendTells r row n before attended next after
+  pub attend-once : (r : Record) (row : List ℕ) (n : ℕ) (before : List ℕ) (turn : Turn) (after : List ℕ) → Attends r row n before (turn .attended) (turn .next) after
+      → AttendTells r row n before (turn .attended) (turn .next) after
+  -- the frame stands at its place, and there are as many cards as before
+  pub put-event : (cards : List ℕ) (kind : Kind) (answer phase reason held door person : ℕ) (list : List ℕ) (at : ℕ) (cards′ after : List ℕ) (next : ℕ)
+      → Wrote list at (toldText kind answer phase reason held door (getD cards door 0)) after next
+      → cards′ ≡ set cards door (cardAfter kind answer person (getD cards door 0))
+      → TextWritten list at (toldText kind answer phase reason held door (getD cards door 0)) after next × (length cards′ ≡ length cards)
+  -- before any card is taken none is at any door
+  pub no-cards : (door : ℕ) → getD {A = ℕ} (replicate mostDoors 0) door 0 ≡ 0
+
+pub record LiveUnique : Type 0 where
+  -- how the row was attended to, the record and the lent list at exit
+  pub attend : (r : Record) (row : List ℕ) (n : ℕ) (before : List ℕ) → Unique (λ (x : Attended × Record × List ℕ). Attends r row n before (x .0) (x .1) (x .2))
+  pub attend-once : (r : Record) (row : List ℕ) (n : ℕ) (before : List ℕ) → Unique (λ (x : Turn × List ℕ). Attends r row n before (x .0 .attended) (x .0 .next) (x .1))
+  -- the place behind the frame, and the two lent lists at exit
+  pub put-event : (cards : List ℕ) (kind : Kind) (answer phase reason held door person : ℕ) (list : List ℕ) (at : ℕ)
+      → Unique
+      (λ (x : ℕ × List ℕ × List ℕ).
+      Wrote list at (toldText kind answer phase reason held door (getD cards door 0)) (x .1) (x .0)
+      × (x .2 ≡ set cards door (cardAfter kind answer person (getD cards door 0))))
+  pub no-cards : Unique (λ (x : List ℕ). x ≡ replicate mostDoors 0)
