@@ -1,10 +1,13 @@
 /* The panel in plain C, for bench/run to measure the proved one by: reads site.csv and steps.csv of the current folder, works
-   out what `panel` prints as many times over as its argument says (once without one), and writes the last text. */
+   out what `panel` prints as many times over as its argument says (once without one), and writes the last text. With the argument
+   `live` it answers the rows of standard input as they come; a broken row it answers only where the input ends, and for a refused site
+   it prints nothing, of which bench/run gives it neither. */
 #include <stdbool.h>
 #include <stdint.h>
 #include <stdio.h>
 #include <stdlib.h>
 #include <string.h>
+#include <unistd.h>
 
 enum { LONGEST_SHEET = 49152, MOST_TEXT = 93184 };
 enum { MOST_PEOPLE = 64, MOST_LOCATIONS = 32, MOST_DOORS = 64 };
@@ -458,10 +461,66 @@ static size_t read_sheet(const char *name, char *sheet)
     return length;
 }
 
+/* ---- the panel's own loop: rows from standard input, each answered before more is read */
+
+enum { LONGEST_ROW = 4096 };
+
+/* Whether a row stands at the front of what is held with its end, so that nothing behind can alter it; at the end of the input any row. */
+static bool is_whole(enum cut cut, const struct reader *r, bool ended)
+{
+    return cut == CUT && (ended || r->at < r->end || r->at[-1] == '\n');
+}
+
+/* Prints what is answered to the row at the front of what is held; whether another row may follow. */
+static bool answer_row(const struct site *s, struct panel *p, enum cut cut, const struct row *row, int n)
+{
+    char out[64];
+    struct text t = {out};
+    bool good = cut == CUT && (n == 0 ? row->count == 3 && IS_WORD(row->field[0], "step") && IS_WORD(row->field[1], "door") && IS_WORD(row->field[2], "person") : run_row(s, p, row, n, &t));
+    if (!good)
+        put_row(&t, n, BAD_FORM, 0, NONE);
+    size_t length = t.at - out;
+    return write(STDOUT_FILENO, out, length) == (ssize_t)length && good;
+}
+
+static int answer_rows(const struct site *s)
+{
+    static char held[LONGEST_ROW];
+    static const char header[] = "row,answer,phase,reason,held\r\n";
+    struct panel p = {0};
+    size_t length = 0;
+    bool ended = false;
+    if (write(STDOUT_FILENO, header, sizeof header - 1) != sizeof header - 1)
+        return 1;
+    for (int n = 0;;) {
+        struct reader r = {held, held + length};
+        struct row row;
+        enum cut cut = cut_row(&r, &row);
+        if (ended && n > 0 && length == 0)
+            return 0;
+        if (is_whole(cut, &r, ended) || ended || length == LONGEST_ROW) {
+            if (!answer_row(s, &p, cut, &row, n++))
+                return 0;
+            length = r.end - r.at;
+            memmove(held, r.at, length);
+            continue;
+        }
+        ssize_t got = read(STDIN_FILENO, held + length, LONGEST_ROW - length);
+        if (got < 0)
+            return 1;
+        ended = got == 0;
+        length += got;
+    }
+}
+
 int main(int argc, char **argv)
 {
     static char site[LONGEST_SHEET + 1], steps[LONGEST_SHEET + 1], out[MOST_TEXT];
     size_t site_length = read_sheet("site.csv", site), steps_length = read_sheet("steps.csv", steps), length = 0;
+    if (argc > 1 && strcmp(argv[1], "live") == 0) {
+        struct site s;
+        return read_site(site, site_length, &s) == DONE ? answer_rows(&s) : 1;
+    }
     int rounds = argc > 1 ? atoi(argv[1]) : 1;
     for (int i = 0; i < rounds; i++) {
         length = panel_text(site, site_length, steps, steps_length, out);

@@ -1,6 +1,7 @@
 # What the commands of bin/ share. A command defines `help`, which says what it reads and prints, and ends with
-# `command_on_folder PROGRAM "$@"`, which runs the proved program on the two sheets of a folder, or with
-# `command_on_input PROGRAM "$@"`, which runs it on standard input.
+# `command_on_folder PROGRAM "$@"`, which runs the proved program on the two sheets of a folder, with
+# `command_on_input PROGRAM "$@"`, which runs it on standard input, or with `command_on_both PROGRAM "$@"`, which runs it on the
+# site sheet of a folder and on standard input.
 #
 # The program says on standard error what went wrong and has no exit status of its own; the command ends with status 1 if the
 # program said anything. Status 2 is for what keeps the program from being run at all.
@@ -144,6 +145,13 @@ run_on_sheets() { # PROGRAM
     run_and_say "$1" "$site" "$steps"
 }
 
+# Runs a program on the site sheet of the current folder and on standard input, with the events' file if one is named.
+run_on_site() { # PROGRAM EVENTS
+    site=site.csv
+    may_open "$site" || site=/dev/null
+    run_and_say "$1" "$site" ${2:+"$2"}
+}
+
 # ---- Commands
 
 help_if_asked() { # PROGRAM [WORD]..
@@ -172,17 +180,43 @@ command_on_input() { # PROGRAM
     exit "$status"
 }
 
+# Goes into the folder that a command is given.
+go_into() { # FOLDER
+    case $1 in
+    /*) cd "$1" ;;
+    ?*) cd "./$1" ;;
+    *) false ;;
+    esac 2>/dev/null || fail "there is no folder '$1' to go into"
+}
+
 command_on_folder() { # PROGRAM [FOLDER]
     help_if_asked "$@"
     [ $# -le 2 ] || fail "at most one folder, not $(($# - 1)); --help says more"
-    folder=${2-.}
-    case $folder in
-    /*) cd "$folder" ;;
-    ?*) cd "./$folder" ;;
-    *) false ;;
-    esac 2>/dev/null || fail "there is no folder '$folder' to go into"
+    go_into "${2-.}"
     make_ready "$1"
     run_on_sheets "$1"
+    exit "$status"
+}
+
+# FILE is named from the folder that the command is called in.
+command_on_both() { # PROGRAM [--events FILE] [FOLDER]
+    help_if_asked "$@"
+    called=$1 events=
+    shift
+    if [ "${1-}" = --events ]; then
+        [ -n "${2-}" ] || fail "--events needs the name of a file; --help says more"
+        events=$2
+        shift 2
+    fi
+    [ $# -le 1 ] || fail "at most one folder, not $#; --help says more"
+    case $events in
+    '' | /*) ;;
+    *) events=$PWD/$events ;;
+    esac
+    may_read_input || exec </dev/null
+    go_into "${1-.}"
+    make_ready "$called"
+    run_on_site "$called" "$events"
     exit "$status"
 }
 

@@ -1,11 +1,14 @@
 -- A row of a sheet that comes alone says what it says in its sheet, and every text comes in rows. Assumes nothing.
-use Prim.Native.Nat.{ℕ, zero, suc, _+_, _-_, _≤_, _<_}
+use Prim.Native.Nat.{ℕ, zero, suc, _+_, _-_, _<_}
 use native.Mathlib.Omega.{arith}
 use mathlib.Core.Path.{_≡_, refl, sym, ap, _∙_}
-use mathlib.Core.Bool.{Bool, true, false, cond}
 use mathlib.Core.List.{List, [], _∷_, _++_, append-assoc, append-nil}
+use mathlib.Core.Bool.{true}
 use borrow.Author.Tests.{eq-eqb}
-use lib.ListN.{length, drop}
+use lib.Dec.{eqb}
+use lib.ListN.{length}
+use Rattle.tables.proofs.Cases.{either}
+use Rattle.phases.specs.declared.table.Kind.{Kind}
 use Rattle.grammar.specs.declared.cut.RowCut.{RowCut}
 use Rattle.grammar.specs.declared.cut.RowCut.the-variants.{Cut, NoRow, Broken}
 use Rattle.grammar.specs.Grammar.{cr, lf, Row, rowText, RowAt, ended, last}
@@ -14,12 +17,12 @@ use Rattle.grammar.specs.Where.{cellsOf}
 use Rattle.grammar.proofs.Unique.{row-unique}
 use Rattle.grammar.proofs.Reading.{cut-there}
 use Rattle.grammar.proofs.Exact.{row-is-cut, cut-is-row, no-row-end, broken-some, broken-none}
-use Rattle.steps_sheet.specs.declared.StepsLine.{StepsLine}
 use Rattle.steps_sheet.specs.declared.StepsLine.the-variants as line
-use Rattle.steps_sheet.specs.Steps.{stepsLineAt}
-use Rattle.steps_sheet.proofs.Rows.{stepFrom, step-line-same}
+use Rattle.steps_sheet.specs.Steps.{stepsLineAt, isStep}
+use Rattle.steps_sheet.specs.declared.StepsLine.{StepsLine}
+use Rattle.steps_sheet.proofs.Rows.{stepFrom, step-line-same, line-says, said-is-step}
 use Rattle.attend.specs.Attend.{rowSaysBy, rowSays}
-use Rattle.attend.specs.Live.{InRows, no-more, a-row, no-row, ComesInRows}
+use Rattle.attend.specs.Live.{no-more, a-row, no-row, ComesInRows}
 
 -- a row that comes alone
 pub alone-says : {row : List ℕ} (r : Row) → RowAt row r [] → rowSays row ≡ stepFrom r
@@ -40,6 +43,22 @@ none-says text none = go (cutRow text 0) refl
     go (Cut cells next) e = let c = cut-is-row text 0 e in absurd (none (c .row) (c .rest) (c .there))
     go NoRow e = refl
     go (Broken byte) e = refl
+
+bad-step : {k : Kind} {d p : ℕ} {A : Type 0} → line.Bad ≡ line.Step k d p → A
+bad-step e = let z : _≡_ {A = ℕ} 0 1 = cc in absurd (omega arith)
+
+-- what a row says that comes alone is one of the ten steps
+pub says-a-step : (row : List ℕ) {k : Kind} {d p : ℕ} → rowSays row ≡ line.Step k d p → isStep k ≡ true
+unfolding rowSays
+says-a-step row {k} {d} {p} said = go (cutRow row 0) refl said
+  where
+    go : (cut : RowCut) → cutRow row 0 ≡ cut → rowSaysBy row cut ≡ line.Step k d p → isStep k ≡ true
+    go (Cut cells next) e is =
+        let c = cut-is-row row 0 e in
+        either (λ (l : StepsLine). l ≡ line.Step k d p → isStep k ≡ true) (eqb next (length row))
+        (λ _ so. said-is-step (line-says (c .row) (sym (step-line-same row (c .row) (c .holds)) ∙ so))) (λ _ so. bad-step so) is
+    go NoRow e is = bad-step is
+    go (Broken byte) e is = bad-step is
 
 -- ---- every text comes in rows
 

@@ -1,11 +1,10 @@
 -- The frames that are written beside the rows that come are those of the run's events. Assumes nothing.
 use Prim.Native.Nat.{ℕ, _+_}
-use mathlib.Core.Path.{_≡_, refl, sym, ap, _∙_}
+use mathlib.Core.Path.{_≡_, refl, sym, _∙_}
 use mathlib.Core.Bool.{Bool, true}
 use mathlib.Core.List.{List, [], _∷_, _++_, map}
 use lib.ListN.{length, length-set}
 use Rattle.tables.specs.Tables.{mostDoors}
-use Rattle.grammar.specs.Grammar.{Row, RowAt}
 use Rattle.grammar.proofs.Unique.{row-unique, no-row-at}
 use Rattle.phases.specs.Kinds.{StepRow}
 use Rattle.record.specs.declared.record.Record.{Record}

@@ -4,7 +4,7 @@ use Prim.Native.Nat.{ℕ, _+_}
 use native.Mathlib.Omega.{arith}
 use native.Mathlib.Nat.{add-zero}
 use mathlib.Core.Path.{_≡_, refl, sym, ap, _∙_}
-use mathlib.Core.Bool.{Bool, true, false, cond, false≢true}
+use mathlib.Core.Bool.{Bool, true, false, false≢true}
 use mathlib.Core.List.{List, [], _∷_, _++_, append-assoc, append-nil}
 use lib.ListN.{length}
 use Rattle.grammar.specs.Grammar.{Row, RowAt}
@@ -23,7 +23,7 @@ use Rattle.steps_sheet.specs.Steps.{isStep}
 use Rattle.steps_sheet.proofs.Rows.{stepFrom, says-line, line-says, said-is-step}
 use Rattle.run_text.specs.Printed.{panelRow, answerRows, lastRow}
 use Rattle.attend.specs.declared.RowAsks.{RowAsks}
-use Rattle.attend.specs.Attend.{rowSays, askedBy, askedIn, shownRow}
+use Rattle.attend.specs.Attend.{askedBy, askedIn, shownRow}
 use Rattle.attend.specs.Live.{InRows, no-more, a-row, no-row, liveRows, liveLast}
 use Rattle.attend.proofs.Coming.{alone-says, none-says}
 

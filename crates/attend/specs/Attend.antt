@@ -24,7 +24,7 @@ use Rattle.run_text.specs.Printed.{panelRow}
 use Rattle.attend.specs.declared.RowAsks.{RowAsks}
 use Rattle.attend.specs.declared.Attended.{Attended}
 
--- what some bytes say that are to be one row: more than one, or a part of one, is of bad form
+-- what some bytes say that are to be one row, with its CRLF or without: no row, or more than one, is of bad form
 abbrev pub rowSaysBy : List ℕ → RowCut → StepsLine
 rowSaysBy row (Cut cells next) = cond (eqb next (length row)) (stepsLineAt row cells) line.Bad
 rowSaysBy row NoRow = line.Bad

@@ -39,7 +39,7 @@ pub struct Turn {
     pub attended: Attended,
 }
 
-// What the bytes of a row say; more than one row, or a part of one, is of bad form.
+// What the bytes of a row say, with its CRLF or without; no row, or more than one, is of bad form.
 fn row_says(row: &[u8]) -> StepsLine
     ensures { λ r. ⌜ r ≡ rowSays (now (row .entry)) ⌝ }
 {

@@ -1,8 +1,9 @@
 -- Rows that are answered as they come: what is told of them, and that it is unique; what that says is in `specs/Rows.antt`. Assumes nothing.
 use Prim.Native.Nat.{ℕ}
-use mathlib.Core.Path.{_≡_, refl, sym, ap, _∙_}
+use mathlib.Core.Path.{_≡_, sym, ap, _∙_}
 use mathlib.Core.List.{List}
-use lib.ListN.{length-set}
+use lib.ListN.{length-set, length-replicate}
+use lib.Seq.{getD-set-same, getD-set-other}
 use Rattle.tables.specs.Tables.{mostDoors}
 use Rattle.tables.specs.Zero.{zeros}
 use Rattle.tables.proofs.Zero.{zeros-at}
@@ -12,15 +13,18 @@ use Rattle.deeds.specs.declared.Told.{Told}
 use Rattle.record.specs.declared.record.Record.{Record}
 use Rattle.sheet_answers.proofs.Texts.{written-told}
 use Rattle.attend.specs.declared.Attended.{Attended}
-use Rattle.attend.specs.declared.Turn.{Turn}
 use Rattle.attend.specs.Attend.{Attends}
-use Rattle.attend.proofs.Theorems.{bad-row-stays, refused-row-stays, row-fits}
+use Rattle.record_answers.proofs.Record.{step-tells}
+use Rattle.attend.proofs.Theorems.{bad-row-stays, refused-row-stays, bad-row-printed, step-printed, row-fits}
 use Rattle.demands.specs.Rows.{AttendTells, LiveAnswers, LiveUnique}
 
 row-tells : {r : Record} {row : List ℕ} {n : ℕ} {before : List ℕ} {attended : Attended} {next : Record} {after : List ℕ} → Attends r row n before attended next after
     → AttendTells r row n before attended next after
 row-tells {r} {row} {n} a =
     record {
+      printed-bad = λ e. bad-row-printed n row _ e;
+      printed-step = λ k d p e. step-printed r n row k d p e;
+      number = λ k d p e. step-tells r k d p;
       bad-form = λ e. a .next-is ∙ bad-row-stays r row e;
       refused = λ no. a .next-is ∙ refused-row-stays r row (λ e. no (ap (λ (t : Told). answerNo (t .answer)) (a .told-is) ∙ e));
       written = written-told (a .wrote);
@@ -33,8 +37,13 @@ of-live =
     record {
       attend = λ r row n before attended next after a. row-tells a;
       attend-once = λ r row n before turn after a. row-tells a;
-      put-event = λ cards kind answer phase reason held door person list at cards′ after next w put. (written-told w, rw put (length-set cards _ _));
-      no-cards = zeros-at mostDoors;
+      put-event = λ cards kind answer phase reason held door person list at cards′ after next w put. (
+        written-told w,
+        rw put (length-set cards _ _),
+        (λ there. rw put (getD-set-same cards door _ 0 there)),
+        (λ other apart. rw put (getD-set-other cards door other _ 0 apart)),
+      );
+      no-cards = (length-replicate {A = ℕ} mostDoors 0, zeros-at mostDoors);
     }
 
 -- two answers to one row are one

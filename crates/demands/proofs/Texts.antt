@@ -2,7 +2,7 @@
 use Prim.Native.Nat.{ℕ, _+_, _*_, _≤_, _<_}
 use mathlib.Core.Path.{_≡_, refl, sym, ap, _∙_}
 use mathlib.Core.Bool.{Bool, true, false, true≢false, cond}
-use mathlib.Core.List.{List, [], _++_}
+use mathlib.Core.List.{List, []}
 use native.Mathlib.Omega.{arith}
 use borrow.Author.Tests.{eqb-true, leb-true, leb-false}
 use lib.Dec.{eqb, ltb, leb}
@@ -14,7 +14,6 @@ use Rattle.site_lines.proofs.Held.{unmarked-at}
 use Rattle.record.specs.declared.record.Record.{Record}
 use Rattle.record.specs.Doors.{Shaped}
 use Rattle.record.specs.Sound.{Sound}
-use Rattle.record.specs.Run.{repliesOf}
 use Rattle.tables.proofs.Cases.{either}
 use Rattle.record.proofs.Laws.{run-sound, run-plan}
 use Rattle.site_sheet.specs.Site.{siteOf, verdictNo}
@@ -25,7 +24,7 @@ use Rattle.steps_sheet.specs.declared.Heading.{Heading}
 use Rattle.steps_sheet.specs.declared.Heading.the-variants as heading
 use Rattle.steps_sheet.specs.Steps.{headingOf, stepsFrom}
 use Rattle.steps_sheet.proofs.Theorems.{few-steps, headed-short}
-use Rattle.run_text.specs.Printed.{panelHeader, whereHeader, panelRow, answerRows, lastRow, runText, aloneText, ranText, stepsText, panelText, placeRows, placesText, recordText, lastRecord, whereText}
+use Rattle.run_text.specs.Printed.{panelHeader, whereHeader, panelRow, aloneText, ranText, stepsText, panelText, placeRows, placesText, recordText, lastRecord, whereText}
 use Rattle.blank_lists.specs.{mostPanelText, mostWhereText}
 use Rattle.stream_text.specs.Stream.{eventsText}
 use Rattle.stream_text.proofs.Theorems.{events-text-fits}

@@ -120,7 +120,7 @@ module _ (r : Record) (k : Kind) (d p : ℕ) where
         a-held = λ sh. act-held-door r k d p (sound-tells r sh .yes s);
       }
 
-  step-tells : StepTells r k d p (stepOf r k d p)
+  pub step-tells : StepTells r k d p (stepOf r k d p)
   unfolding stepOf soundStep
   step-tells =
       either (StepTells r k d p) (soundB r)

@@ -15,7 +15,7 @@ use Rattle.grammar.specs.declared.cut.Cell.{Cell}
 use Rattle.grammar.specs.declared.cut.ByteMove.the-variants.{Go, NextField, RowEnd}
 use Rattle.grammar.specs.declared.cut.FieldCut.the-variants.{Next, Last}
 use Rattle.grammar.specs.declared.cut.RowCut.the-variants.{Cut}
-use Rattle.grammar.specs.Cut.{emptyAt, upTo, bareMove, moveOf, fieldFrom, cutField, pushed, noCells, cutRow}
+use Rattle.grammar.specs.Cut.{emptyAt, upTo, bareMove, moveOf, fieldFrom, cutField, pushed, cutRow}
 use Rattle.grammar.proofs.Steps.{field-more, field-turn, row-start, row-more, row-turn}
 use Rattle.sheet.specs.Bare.{BareUpTo, hasAt}
 

@@ -1,5 +1,5 @@
-// The field cutter and the row cutter. Each byte is looked at once, in the mode that the bytes before it have led to;
-// nothing is copied.
+// The field cutter and the row cutter. A row of three bare fields is cut at its commas; any other field by field, each byte in the mode
+// that the bytes before it have led to. Nothing is copied.
 ghost use mathlib.Core.Path.{_≡_};
 ghost use mathlib.Core.Bool.{false};
 ghost use Prim.Native.Nat.{_<_, _^_};
@@ -219,7 +219,7 @@ fn cut_fields(s: &[u8], at: usize) -> RowCut
 }
 
 // Where the bytes above the comma end that stand at a position of the sheet. One comparison serves for each byte: quote, comma, CR and LF
-// are all at most the comma, and the few others that are, are left to `cut_fields`.
+// are all at most the comma, and the 41 others that are, are left to `cut_fields`.
 fn bare_end(s: &[u8], at: usize) -> usize
     ensures { λ r. ⌜ BareUpTo (now (s .entry)) at r ⌝ }
 {

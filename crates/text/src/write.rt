@@ -58,7 +58,7 @@ fn put_long(out: &mut [u8], at: usize, n: usize) -> usize
     put(out, at, b'0' + n as u8)
 }
 
-// A number, by as many digits as it has. One digit, as nearly every number here has, is put without a call of `put_long`.
+// A number, by as many digits as it has. One digit, as most numbers of a row have, is put without a call of `put_long`.
 pub fn put_number(out: &mut [u8], at: usize, n: usize) -> usize
     ensures { λ r. ⌜ Wrote (now (out .entry)) at (decimal n) (now (out .exit)) r ⌝ }
 {
