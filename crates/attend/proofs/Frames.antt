@@ -5,16 +5,13 @@ use mathlib.Core.Bool.{Bool, true}
 use mathlib.Core.List.{List, [], _∷_, _++_, map}
 use lib.ListN.{length, length-set}
 use Rattle.tables.specs.Tables.{mostDoors}
-use Rattle.grammar.proofs.Unique.{row-unique, no-row-at}
 use Rattle.phases.specs.Kinds.{StepRow}
 use Rattle.record.specs.declared.record.Record.{Record}
 use Rattle.record.specs.Doors.{Shaped}
 use Rattle.record.specs.Sound.{Sound}
 use Rattle.record.specs.Run.{rowOf, replyBy, repliesOf}
 use Rattle.record.proofs.Laws.{shaped-stays, sound-stays}
-use Rattle.steps_sheet.specs.Says.{SaysStep, TextSaysSteps, nothing, a-step, bad-row, no-row-there}
 use Rattle.steps_sheet.specs.Steps.{isStep}
-use Rattle.steps_sheet.proofs.Rows.{said-is-step}
 use Rattle.run_events.specs.Lines.{Line, linesOf, heardOf}
 use Rattle.run_events.specs.Events.{Spell, meaningOf, spellsAfter, eventBy, eventsOf}
 use Rattle.syslog.specs.Line.{streamOf}
@@ -22,8 +19,8 @@ use Rattle.stream_text.specs.Stream.{lineEvent}
 use Rattle.stream_text.proofs.Rows.{Cards, cards-after, stream-both, line-writes}
 use Rattle.stream_text.proofs.Sheets.{done-door}
 use Rattle.attend.specs.Attend.{askedIn}
-use Rattle.attend.specs.Live.{InRows, no-more, a-row, no-row, frameOf, cardsAfter, liveFrames}
-use Rattle.attend.proofs.Live.{askedFor, nothingAsked, step-asked, bad-asked, none-asked}
+use Rattle.attend.specs.Live.{frameOf, cardsAfter, liveFrames}
+use Rattle.attend.proofs.Live.{askedFor, nothingAsked, RowsAsk, all-answered, by-step, by-bad-form}
 
 -- the fold over the rows that come, one row at a time
 module _ (r : Record) (cards row : List ℕ) (rows : List (List ℕ)) where
@@ -40,31 +37,17 @@ module _ (r : Record) (cards row : List ℕ) (rows : List (List ℕ)) where
 abbrev lineOf : Record → StepRow → Line
 lineOf r step = record { row = step; reply = replyBy (rowOf r step) }
 
--- a text says these steps and comes in these rows: the frames are those of the steps' events, where the list has the person of each door's card
-pub frames-written : {text text′ : List ℕ} {steps : List StepRow} {whole : Bool} {rows : List (List ℕ)} → TextSaysSteps text steps whole → InRows text′ rows → text ≡ text′
-    → (r : Record) → Shaped r → Sound r → (n : ℕ) (spells : ℕ → Spell) (cards : List ℕ) → length cards ≡ mostDoors → Cards spells cards
-    → liveFrames r cards rows ≡ streamOf (map lineEvent (eventsOf spells n (heardOf r steps)))
+-- the frames written beside rows that come are those of the steps' events, where the list has the person of each door's card
+pub frames-written : {steps : List StepRow} {whole : Bool} {rows : List (List ℕ)} → RowsAsk steps whole rows → (r : Record) → Shaped r → Sound r → (n : ℕ) (spells : ℕ → Spell)
+    (cards : List ℕ) → length cards ≡ mostDoors → Cards spells cards → liveFrames r cards rows ≡ streamOf (map lineEvent (eventsOf spells n (heardOf r steps)))
 unfolding liveFrames repliesOf linesOf heardOf eventsOf streamOf
-frames-written nothing no-more e r sh s n spells cards long shown = refl
-frames-written nothing (a-row a b f more) e r sh s n spells cards long shown = absurd (no-row-at a e)
-frames-written nothing (no-row some none) e r sh s n spells cards long shown = absurd (some (sym e))
-frames-written (a-step a says t) no-more e r sh s n spells cards long shown = absurd (no-row-at a (sym e))
-frames-written (a-step {step = step} {steps = steps} a says t) (a-row {row = row} {rows = rows} a′ b f more) e r sh s n spells cards long shown =
-    let same = row-unique a a′ e in
-    let said : SaysStep _ step = rw (same .first) at says in
+frames-written all-answered r sh s n spells cards long shown = refl
+frames-written (by-step {step = step} {steps = steps} {row = row} {rows = rows} asked is more) r sh s n spells cards long shown =
     let line = lineOf r step in
     let frame = line-writes line n spells cards shown (done-door r s step) in
     let behind =
-    frames-written t more (same .behind) (rowOf r step .next) (shaped-stays r (step .kind) (step .at) (step .person) sh) (sound-stays r (step .kind) (step .at) (step .person) sh s)
+    frames-written more (rowOf r step .next) (shaped-stays r (step .kind) (step .at) (step .person) sh) (sound-stays r (step .kind) (step .at) (step .person) sh s)
     (n + 1) (spellsAfter spells n line) (cardsAfter cards (askedFor step) (rowOf r step)) (length-set cards _ _ ∙ long) (cards-after spells n line cards long shown) in
-    frames-step r cards row rows step (step-asked _ step b said) (said-is-step says)
+    frames-step r cards row rows step asked is
     ∙ (rw (behind, ← frame) (sym (stream-both (eventBy (meaningOf line) n (step .at) (spells (step .at) .person)) (eventsOf (spellsAfter spells n line) (n + 1) (heardOf (rowOf r step .next) steps)))))
-frames-written (a-step {r = r₁} {rest = rest} a says t) (no-row some none) e r sh s n spells cards long shown = absurd (none r₁ rest (rw e at a))
-frames-written (bad-row a bad) no-more e r sh s n spells cards long shown = absurd (no-row-at a (sym e))
-frames-written (bad-row a bad) (a-row {row = row} {r = r₂} {rows = rows} a′ b f more) e r sh s n spells cards long shown =
-    let same = row-unique a a′ e in
-    frames-bad r cards row rows (bad-asked r₂ b (rw (same .first) at bad))
-frames-written (bad-row {r = r₁} {rest = rest} a bad) (no-row some none) e r sh s n spells cards long shown = absurd (none r₁ rest (rw e at a))
-frames-written (no-row-there some none) no-more e r sh s n spells cards long shown = absurd (some e)
-frames-written (no-row-there some none) (a-row {rest = rest} {r = r₂} a b f more) e r sh s n spells cards long shown = absurd (none r₂ rest (rw (sym e) at a))
-frames-written (no-row-there some none) (no-row {text = text} some′ none′) e r sh s n spells cards long shown = frames-bad r cards text [] (none-asked text none′)
+frames-written (by-bad-form {row = row} {rows = rows} asked) r sh s n spells cards long shown = frames-bad r cards row rows asked

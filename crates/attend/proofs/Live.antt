@@ -35,7 +35,7 @@ abbrev pub nothingAsked : RowAsks
 nothingAsked = askedBy line.Bad
 
 -- a row that says a step asks for it, and one of bad form for nothing
-pub step-asked : {row : List ℕ} (r : Row) (step : StepRow) → RowAt row r [] → SaysStep r step → askedIn row ≡ askedFor step
+step-asked : {row : List ℕ} (r : Row) (step : StepRow) → RowAt row r [] → SaysStep r step → askedIn row ≡ askedFor step
 step-asked r step a says = ap askedBy (alone-says r a ∙ says-line r says)
 
 bad-line : (r : Row) → BadForm r → stepFrom r ≡ line.Bad
@@ -45,10 +45,10 @@ bad-line r bad = go (stepFrom r) refl
     go (line.Step k d p) e = absurd (bad _ (line-says r e))
     go line.Bad e = refl
 
-pub bad-asked : {row : List ℕ} (r : Row) → RowAt row r [] → BadForm r → askedIn row ≡ nothingAsked
+bad-asked : {row : List ℕ} (r : Row) → RowAt row r [] → BadForm r → askedIn row ≡ nothingAsked
 bad-asked r a bad = ap askedBy (alone-says r a ∙ bad-line r bad)
 
-pub none-asked : (text : List ℕ) → ((r : Row) (rest : List ℕ) → RowAt text r rest → ⊥) → askedIn text ≡ nothingAsked
+none-asked : (text : List ℕ) → ((r : Row) (rest : List ℕ) → RowAt text r rest → ⊥) → askedIn text ≡ nothingAsked
 none-asked text none = ap askedBy (none-says text none)
 
 -- no phase allows what a row of bad form asks for
@@ -80,49 +80,47 @@ module _ (r : Record) (row : List ℕ) (rows : List (List ℕ)) where
   unfolding liveLast
   last-bad e = rw e (unknown-stays r 0 0)
 
--- a text says these steps and comes in these rows: they are printed as the replies of the steps, and the row of bad form
-pub rows-printed : {text text′ : List ℕ} {steps : List StepRow} {whole : Bool} {rows : List (List ℕ)} → TextSaysSteps text steps whole → InRows text′ rows → text ≡ text′
-    → (r : Record) (n : ℕ) → liveRows r n rows ≡ answerRows n (repliesOf r steps) ++ lastRow whole (n + length steps)
-unfolding liveRows repliesOf answerRows
-rows-printed nothing no-more e r n = refl
-rows-printed nothing (a-row a b f more) e r n = absurd (no-row-at a e)
-rows-printed nothing (no-row some none) e r n = absurd (some (sym e))
-rows-printed (a-step a says t) no-more e r n = absurd (no-row-at a (sym e))
-rows-printed (a-step {step = step} {steps = steps} {whole = whole} a says t) (a-row {row = row} {rows = rows} a′ b f more) e r n =
+-- rows that come beside steps: each row asks for its step, and one of bad form, behind which nothing is answered, for nothing
+pub data RowsAsk : List StepRow → Bool → List (List ℕ) → Type 0 where
+  all-answered : RowsAsk [] true []
+  by-step : {step : StepRow} {steps : List StepRow} {whole : Bool} {row : List ℕ} {rows : List (List ℕ)} → askedIn row ≡ askedFor step → isStep (step .kind) ≡ true
+      → RowsAsk steps whole rows → RowsAsk (step ∷ steps) whole (row ∷ rows)
+  by-bad-form : {row : List ℕ} {rows : List (List ℕ)} → askedIn row ≡ nothingAsked → RowsAsk [] false (row ∷ rows)
+
+-- so are the rows of a text beside the steps that it says
+pub rows-ask : {text text′ : List ℕ} {steps : List StepRow} {whole : Bool} {rows : List (List ℕ)} → TextSaysSteps text steps whole → InRows text′ rows → text ≡ text′
+    → RowsAsk steps whole rows
+rows-ask nothing no-more e = all-answered
+rows-ask nothing (a-row a b f more) e = absurd (no-row-at a e)
+rows-ask nothing (no-row some none) e = absurd (some (sym e))
+rows-ask (a-step a says t) no-more e = absurd (no-row-at a (sym e))
+rows-ask (a-step {step = step} a says t) (a-row a′ b f more) e =
     let same = row-unique a a′ e in
     let said : SaysStep _ step = rw (same .first) at says in
-    let behind = rows-printed t more (same .behind) (rowOf r step .next) (n + 1) in
+    by-step (step-asked _ step b said) (said-is-step says) (rows-ask t more (same .behind))
+rows-ask (a-step {r = r} {rest = rest} a says t) (no-row some none) e = absurd (none r rest (rw e at a))
+rows-ask (bad-row a bad) no-more e = absurd (no-row-at a (sym e))
+rows-ask (bad-row a bad) (a-row {r = r} a′ b f more) e = let same = row-unique a a′ e in by-bad-form (bad-asked r b (rw (same .first) at bad))
+rows-ask (bad-row {r = r} {rest = rest} a bad) (no-row some none) e = absurd (none r rest (rw e at a))
+rows-ask (no-row-there some none) no-more e = absurd (some e)
+rows-ask (no-row-there some none) (a-row {rest = rest} {r = r} a b f more) e = absurd (none r rest (rw (sym e) at a))
+rows-ask (no-row-there some none) (no-row {text = text} some′ none′) e = by-bad-form (none-asked text none′)
+
+-- they are printed as the replies of the steps, and the row of bad form
+pub rows-printed : {steps : List StepRow} {whole : Bool} {rows : List (List ℕ)} → RowsAsk steps whole rows → (r : Record) (n : ℕ)
+    → liveRows r n rows ≡ answerRows n (repliesOf r steps) ++ lastRow whole (n + length steps)
+unfolding liveRows repliesOf answerRows
+rows-printed all-answered r n = refl
+rows-printed (by-step {step = step} {steps = steps} {whole = whole} {row = row} {rows = rows} asked is more) r n =
+    let behind = rows-printed more (rowOf r step .next) (n + 1) in
     let count : n + 1 + length steps ≡ n + length (step ∷ steps) = omega arith in
-    rows-step r n row rows step (step-asked _ step b said) (said-is-step says)
+    rows-step r n row rows step asked is
     ∙ (rw (behind, count) (sym (append-assoc (stepRow r n step) (answerRows (n + 1) (repliesOf (rowOf r step .next) steps)) (lastRow whole (n + length (step ∷ steps))))))
-rows-printed (a-step {r = r₁} {rest = rest} a says t) (no-row some none) e r n = absurd (none r₁ rest (rw e at a))
-rows-printed (bad-row a bad) no-more e r n = absurd (no-row-at a (sym e))
-rows-printed (bad-row a bad) (a-row {row = row} {r = r₂} {rows = rows} a′ b f more) e r n =
-    let same = row-unique a a′ e in
-    rows-bad r n row rows (bad-asked r₂ b (rw (same .first) at bad)) ∙ rw (add-zero n)
-rows-printed (bad-row {r = r₁} {rest = rest} a bad) (no-row some none) e r n = absurd (none r₁ rest (rw e at a))
-rows-printed (no-row-there some none) no-more e r n = absurd (some e)
-rows-printed (no-row-there some none) (a-row {rest = rest} {r = r₂} a b f more) e r n = absurd (none r₂ rest (rw (sym e) at a))
-rows-printed (no-row-there some none) (no-row {text = text} some′ none′) e r n = rows-bad r n text [] (none-asked text none′) ∙ rw (add-zero n)
+rows-printed (by-bad-form {row = row} {rows = rows} asked) r n = rows-bad r n row rows asked ∙ rw (add-zero n)
 
 -- and the record afterwards is the one after the steps
-pub rows-done : {text text′ : List ℕ} {steps : List StepRow} {whole : Bool} {rows : List (List ℕ)} → TextSaysSteps text steps whole → InRows text′ rows → text ≡ text′
-    → (r : Record) → liveLast r rows ≡ lastOf r steps
+pub rows-done : {steps : List StepRow} {whole : Bool} {rows : List (List ℕ)} → RowsAsk steps whole rows → (r : Record) → liveLast r rows ≡ lastOf r steps
 unfolding liveLast lastOf
-rows-done nothing no-more e r = refl
-rows-done nothing (a-row a b f more) e r = absurd (no-row-at a e)
-rows-done nothing (no-row some none) e r = absurd (some (sym e))
-rows-done (a-step a says t) no-more e r = absurd (no-row-at a (sym e))
-rows-done (a-step {step = step} a says t) (a-row {row = row} {rows = rows} a′ b f more) e r =
-    let same = row-unique a a′ e in
-    let said : SaysStep _ step = rw (same .first) at says in
-    last-step r row rows step (step-asked _ step b said) (said-is-step says) ∙ rows-done t more (same .behind) (rowOf r step .next)
-rows-done (a-step {r = r₁} {rest = rest} a says t) (no-row some none) e r = absurd (none r₁ rest (rw e at a))
-rows-done (bad-row a bad) no-more e r = absurd (no-row-at a (sym e))
-rows-done (bad-row a bad) (a-row {row = row} {r = r₂} {rows = rows} a′ b f more) e r =
-    let same = row-unique a a′ e in
-    last-bad r row rows (bad-asked r₂ b (rw (same .first) at bad))
-rows-done (bad-row {r = r₁} {rest = rest} a bad) (no-row some none) e r = absurd (none r₁ rest (rw e at a))
-rows-done (no-row-there some none) no-more e r = absurd (some e)
-rows-done (no-row-there some none) (a-row {rest = rest} {r = r₂} a b f more) e r = absurd (none r₂ rest (rw (sym e) at a))
-rows-done (no-row-there some none) (no-row {text = text} some′ none′) e r = last-bad r text [] (none-asked text none′)
+rows-done all-answered r = refl
+rows-done (by-step {step = step} {row = row} {rows = rows} asked is more) r = last-step r row rows step asked is ∙ rows-done more (rowOf r step .next)
+rows-done (by-bad-form {row = row} {rows = rows} asked) r = last-bad r row rows asked

@@ -55,7 +55,7 @@ use Rattle.attend.specs.Attend.{rowSays, askedIn, stepAsked, shownRow, A
 use Rattle.attend.specs.Live.{InRows, ComesInRows, liveRows, liveLast, liveFrames, AttendedRows, none-left, bad-form, a-step}
 use Rattle.attend.specs.IsPanel.{LiveIsPanel}
 use Rattle.attend.proofs.Coming.{text-comes, says-a-step}
-use Rattle.attend.proofs.Live.{unknown-stays, rows-printed, rows-done}
+use Rattle.attend.proofs.Live.{unknown-stays, rows-ask, rows-printed, rows-done}
 use Rattle.attend.proofs.Frames.{frames-written}
 
 -- the header and the rows of a text that says these steps are the text of their run
@@ -64,13 +64,13 @@ run-printed : {text : List ℕ} {steps : List StepRow} {whole : Bool} {rows : Li
 unfolding runText
 run-printed {steps = steps} says rows r =
     let count : 1 + length steps ≡ length (repliesOf r steps) + 1 = let told = replies-length r steps in omega arith in
-    rw (rows-printed says rows refl r 1, count)
+    rw (rows-printed (rows-ask says rows refl) r 1, count)
 
 -- and the frames are those of its events, no card being at any door before
 frames-of : {text : List ℕ} {steps : List StepRow} {whole : Bool} {rows : List (List ℕ)} → TextSaysSteps text steps whole → InRows text rows → (r : Record) → Shaped r → Sound r
     → liveFrames r (replicate mostDoors 0) rows ≡ streamOf (lineEventsIn r steps)
 unfolding zeros
-frames-of says come r sh s = frames-written says come refl r sh s 1 noSpells (replicate mostDoors 0) (length-replicate {A = ℕ} mostDoors 0) (λ d h. sym (zeros-at mostDoors d))
+frames-of says come r sh s = frames-written (rows-ask says come refl) r sh s 1 noSpells (replicate mostDoors 0) (length-replicate {A = ℕ} mostDoors 0) (λ d h. sym (zeros-at mostDoors d))
 
 pub comes-in-rows : (text : List ℕ) → ComesInRows text
 comes-in-rows = text-comes
@@ -81,7 +81,7 @@ pub live-unlimited : (s : List ℕ) (from : ℕ) (rows : List (List ℕ)) → In
     → (panelHeader ++ liveRows r 1 rows ≡ ranText r (stepsFrom s from)) × (liveLast r rows ≡ lastOf r (stepsFrom s from .rows))
     × (Shaped r → Sound r → liveFrames r (replicate mostDoors 0) rows ≡ streamOf (lineEventsIn r (stepsFrom s from .rows)))
 live-unlimited s from rows come r =
-    (run-printed (steps-said s from) come r, rows-done (steps-said s from) come refl r, λ sh sound. frames-of (steps-said s from) come r sh sound)
+    (run-printed (steps-said s from) come r, rows-done (rows-ask (steps-said s from) come refl) r, λ sh sound. frames-of (steps-said s from) come r sh sound)
 
 pub bad-row-stays : (r : Record) (row : List ℕ) → rowSays row ≡ line.Bad → stepAsked r (askedIn row) .next ≡ r
 bad-row-stays r row e = rw e (unknown-stays r 0 0)
@@ -171,7 +171,7 @@ live-is-panel site steps taken {from} heading rows come =
     let accepted = accepted-holds limit site taken in
     let said = steps-said steps from in
     let text = run-printed said come fresh ∙ panel-is site steps refl number refl heading in
-    let places : recordText (liveLast fresh rows) ≡ whereText site steps = rw (rows-done said come refl fresh) (where-is site steps refl number refl heading) in
+    let places : recordText (liveLast fresh rows) ≡ whereText site steps = rw (rows-done (rows-ask said come refl) fresh) (where-is site steps refl number refl heading) in
     record {
       text = text;
       places = places;
