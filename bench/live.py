@@ -22,9 +22,9 @@ def some_rows(count):
 class Loop:
     """A program that answers rows: what is written to it, and what it writes."""
 
-    def __init__(self, program, arguments, folder):
+    def __init__(self, program, folder):
         words, environment = program
-        self.process = subprocess.Popen(words + arguments, cwd=folder, env=environment, stdin=subprocess.PIPE, stdout=subprocess.PIPE, bufsize=0)
+        self.process = subprocess.Popen(words, cwd=folder, env=environment, stdin=subprocess.PIPE, stdout=subprocess.PIPE, bufsize=0)
         self.send(b"step,door,person\r\n")
         self.answers = [self.line()]
 
@@ -53,9 +53,9 @@ class Loop:
         return text
 
 
-def waits(program, arguments, folder):
+def waits(program, folder):
     """For each row the microseconds from its last byte to its answer's last byte, and all that was written."""
-    loop, taken = Loop(program, arguments, folder), []
+    loop, taken = Loop(program, folder), []
     for row in some_rows(ROWS_ALONE):
         begun = time.perf_counter_ns()
         loop.send(row)
@@ -65,9 +65,9 @@ def waits(program, arguments, folder):
     return taken, loop.written(ROWS_ALONE)
 
 
-def piped(program, arguments, folder):
+def piped(program, folder):
     """How many rows a second go through a pipe, and all that was written."""
-    loop, text = Loop(program, arguments, folder), b"".join(some_rows(ROWS_PIPED))
+    loop, text = Loop(program, folder), b"".join(some_rows(ROWS_PIPED))
     begun = time.perf_counter()
     feeding = threading.Thread(target=lambda: (loop.send(text), loop.process.stdin.close()))
     feeding.start()
@@ -77,11 +77,11 @@ def piped(program, arguments, folder):
 
 
 def live_costs(programs, folder):
-    """`programs` has for each name a program and its arguments."""
+    """What each of these programs takes; all have to write the same bytes."""
     texts = []
-    for name, (program, arguments) in programs.items():
-        taken, text = waits(program, arguments, folder)
-        a_second, other = piped(program, arguments, folder)
+    for name, program in programs.items():
+        taken, text = waits(program, folder)
+        a_second, other = piped(program, folder)
         texts.append((text, other))
         say(f"rows as they come, {name}: a row waits {statistics.median(taken):.0f} microseconds (median of {ROWS_ALONE:,}, the worst {max(taken):.0f}); "
             f"{a_second:,.0f} rows a second through a pipe")

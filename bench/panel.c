@@ -1,13 +1,15 @@
 /* The panel in plain C, for bench/run to measure the proved one by: reads site.csv and steps.csv of the current folder, works
-   out what `panel` prints as many times over as its argument says (once without one), and writes the last text. With the argument
-   `live` it answers the rows of standard input as they come; a broken row it answers only where the input ends, and for a refused site
-   it prints nothing, of which bench/run gives it neither. */
+   out what `panel` prints as many times over as its argument says (once without one), and writes the last text. Compiled with LIVE it
+   reads site.csv and answers the rows of standard input as they come; a broken row it answers only where the input ends, and for a
+   refused site it prints nothing, of which bench/run gives it neither. */
 #include <stdbool.h>
 #include <stdint.h>
 #include <stdio.h>
 #include <stdlib.h>
 #include <string.h>
+#ifdef LIVE
 #include <unistd.h>
+#endif
 
 enum { LONGEST_SHEET = 49152, MOST_TEXT = 93184 };
 enum { MOST_PEOPLE = 64, MOST_LOCATIONS = 32, MOST_DOORS = 64 };
@@ -411,6 +413,7 @@ static bool run_row(const struct site *s, struct panel *p, const struct row *row
     return true;
 }
 
+#ifndef LIVE
 static void run_steps(const struct site *s, const char *sheet, size_t length, struct text *t)
 {
     struct reader r = {sheet, sheet + length};
@@ -450,6 +453,7 @@ static size_t panel_text(const char *site, size_t site_length, const char *steps
         run_steps(&s, steps, steps_length, &t);
     return t.at - out;
 }
+#endif
 
 static size_t read_sheet(const char *name, char *sheet)
 {
@@ -461,6 +465,7 @@ static size_t read_sheet(const char *name, char *sheet)
     return length;
 }
 
+#ifdef LIVE
 /* ---- the panel's own loop: rows from standard input, each answered before more is read */
 
 enum { LONGEST_ROW = 4096 };
@@ -513,14 +518,18 @@ static int answer_rows(const struct site *s)
     }
 }
 
+int main(void)
+{
+    static char site[LONGEST_SHEET + 1];
+    size_t length = read_sheet("site.csv", site);
+    struct site s;
+    return read_site(site, length, &s) == DONE ? answer_rows(&s) : 1;
+}
+#else
 int main(int argc, char **argv)
 {
     static char site[LONGEST_SHEET + 1], steps[LONGEST_SHEET + 1], out[MOST_TEXT];
     size_t site_length = read_sheet("site.csv", site), steps_length = read_sheet("steps.csv", steps), length = 0;
-    if (argc > 1 && strcmp(argv[1], "live") == 0) {
-        struct site s;
-        return read_site(site, site_length, &s) == DONE ? answer_rows(&s) : 1;
-    }
     int rounds = argc > 1 ? atoi(argv[1]) : 1;
     for (int i = 0; i < rounds; i++) {
         length = panel_text(site, site_length, steps, steps_length, out);
@@ -529,3 +538,4 @@ int main(int argc, char **argv)
     }
     return fwrite(out, 1, length, stdout) == length ? 0 : 1;
 }
+#endif

@@ -61,27 +61,27 @@ def done(words):
         fail("this failed: " + " ".join(words))
 
 
-def made_by_clang(source, program):
+def made_by_clang(source, program, options):
     """The C program by a clang that knows x86-64, linked as the kit links its own. The headers are this machine's: the program uses nothing in
     them that differs from one processor to another."""
     lib = os.path.join(toolchain(), "lib")
-    done(["clang", "--target=x86_64-linux-gnu", "-O2", "-fPIE", "-isystem", f"/usr/include/{platform.machine()}-linux-gnu", "-c", "-o", program + ".o", source])
+    done(["clang", "--target=x86_64-linux-gnu", "-O2", "-fPIE", "-isystem", f"/usr/include/{platform.machine()}-linux-gnu", *options, "-c", "-o", program + ".o", source])
     parts = [os.path.join(lib, name) for name in ("Scrt1.o", "crti.o", "crtbeginS.o")] + [program + ".o"]
     parts += [os.path.join(lib, name) for name in ("libc.so.6", "libc_nonshared.a", "libgcc.a", "crtendS.o", "crtn.o")]
     done([os.path.join(toolchain(), "bin", "ld.lld"), "-pie", "-dynamic-linker", "/lib64/ld-linux-x86-64.so.2", "-o", program, *parts])
     return runnable(program)
 
 
-def c_program(folder):
-    """bench/panel.c compiled at -O2, and by what; None where there is no compiler for it."""
-    source, program = os.path.join(ROOT, "bench", "panel.c"), os.path.join(folder, "panel")
+def c_program(folder, name, *options):
+    """bench/panel.c compiled at -O2 and with these options, and by what; None where there is no compiler for it."""
+    source, program = os.path.join(ROOT, "bench", "panel.c"), os.path.join(folder, name)
     compiler = "cc" if NATIVE else "x86_64-linux-gnu-gcc"
     if shutil.which(compiler):
-        done([compiler, "-O2", "-o", program, source, *([] if NATIVE else ["-static"])])
+        done([compiler, "-O2", *options, "-o", program, source, *([] if NATIVE else ["-static"])])
         words, environment = runnable(program)
         return ([*words[:1], program] if not NATIVE else words, environment), compiler
     if not NATIVE and shutil.which("clang"):
-        return made_by_clang(source, program), "clang"
+        return made_by_clang(source, program, options), "clang"
     return None, compiler
 
 
