@@ -1,4 +1,6 @@
 // Which door is granted to a person? What is told, and its number.
+#![tactic(auto)]
+
 ghost use Rattle.std.specs.Prelude.{◌≡◌};
 ghost use Rattle.asked_grant.specs.{grant_no, grant_told};
 
@@ -6,7 +8,7 @@ use findings::Found;
 use numbers::Paper;
 
 // Which door is granted to a person.
-#[derive(Drop)]
+#[derive(Clone, Copy)]
 pub enum GrantAnswer {
     // 0: this door
     Door(usize),

@@ -1,11 +1,13 @@
 // Where is a person? What is told, and its number.
+#![tactic(auto)]
+
 ghost use Rattle.std.specs.Prelude.{◌≡◌};
 ghost use Rattle.asked_place.specs.{place_no, place_told};
 
 use numbers::Paper;
 
 // Where a person is.
-#[derive(Drop)]
+#[derive(Clone, Copy)]
 pub enum PlaceAnswer {
     // 0: in this location
     At(u8),

@@ -1,11 +1,13 @@
 // How long is the way out of a location? What is told, and its number.
+#![tactic(auto)]
+
 ghost use Rattle.std.specs.Prelude.{◌≡◌};
 ghost use Rattle.asked_way.specs.{way_no, length_told};
 
 use numbers::Paper;
 
 // How long the way out of a location is.
-#[derive(Drop)]
+#[derive(Clone, Copy)]
 pub enum WayAnswer {
     // 0: so long; it stands in the front of the list that was lent
     Length(usize),

@@ -3,6 +3,7 @@
 //
 // `attend` takes the lent record; `attend_once` lends it one, for whoever holds it by value. A row of bad form asks for no step, which no
 // phase allows, so that the record stays as it was. The definitions are in specs/Attend.antt.
+#![tactic(auto)]
 ghost use Rattle.std.specs.Prelude.{◌≡◌};
 ghost use Rattle.text.specs.Wrote.{Wrote};
 ghost use Rattle.attend.specs.Attend.{row_says, asked_by, shown_row, Attends};
@@ -19,7 +20,7 @@ use steps_sheet::StepsLine;
 
 // What a row asks for: a step with its door and its person. A row of bad form asks for an unknown step.
 #[repr(C)]
-#[derive(Drop)]
+#[derive(Clone, Copy)]
 pub struct RowAsks {
     pub kind: Kind,
     pub door: usize,
@@ -28,7 +29,7 @@ pub struct RowAsks {
 
 // How a row was attended to: what it asked for, what was told, and how long the row to print is.
 #[repr(C)]
-#[derive(Drop)]
+#[derive(Clone, Copy)]
 pub struct Attended {
     pub asked: RowAsks,
     pub told: Told,
@@ -37,7 +38,7 @@ pub struct Attended {
 
 // What was done by value: the record as it is found afterwards, and how the row was attended to.
 #[repr(C)]
-#[derive(Drop)]
+#[derive(Clone, Copy)]
 pub struct Turn {
     pub next: Record,
     pub attended: Attended,

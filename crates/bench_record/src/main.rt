@@ -1,6 +1,7 @@
 // `bench_record`: puts a grant at every door of a site's record, and then tests its soundness as many times as the argument says;
 // with a second argument it does so many steps on the record lent instead, a tick at one door after the other. It
 // writes how many tests said sound, or how many steps were done. bench/run counts its instructions.
+#![tactic(auto)]
 ghost use Rattle.std.specs.Prelude.{◌≤◌};
 
 use blank_lists::blank_sheet;

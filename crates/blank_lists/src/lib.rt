@@ -1,4 +1,6 @@
 // Lists of zeros: for a sheet and for the two texts, which the programs lend, and for the rights of a site.
+#![tactic(auto)]
+
 ghost use Rattle.std.specs.Prelude.{◌+◌, ◌*◌, ◌≡◌, replicate, false};
 ghost use Rattle.grammar.specs.Sizes.{limit};
 ghost use Rattle.tables.specs.Tables.{most_people, most_locations};

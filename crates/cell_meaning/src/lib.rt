@@ -2,9 +2,10 @@
 //
 // The type is that which `cells` answers with. specs/Say.antt says what a word and a proper number are, and proofs/Theorems.antt
 // shows that what its tests answer of a cell is what the content of the field says.
+#![tactic(auto)]
 
 // What a field says as a number.
-#[derive(Drop)]
+#[derive(Clone, Copy)]
 pub enum Number {
     // this number
     Is(usize),

@@ -1,5 +1,7 @@
 // What a step does and tells, judged on lent lists and carried out on them. The lists are those of a
 // record, of which nothing else is needed here; any list of any length is answered.
+#![tactic(auto)]
+
 ghost use Rattle.std.specs.Prelude.{◌≡◌, List, ℕ, ◌<◌, set};
 ghost use Rattle.tables.specs.Tables.{plan, most_people};
 ghost use Rattle.granting.specs.Reasons.{first_reason};
@@ -20,7 +22,7 @@ pub const UNTOLD: u8 = 0;
 
 // What a step tells.
 #[repr(C)]
-#[derive(Drop)]
+#[derive(Clone, Copy)]
 pub struct Told {
     pub answer: Answer,
     pub phase: u8,
@@ -29,7 +31,7 @@ pub struct Told {
 }
 
 // What is done at a door.
-#[derive(Drop)]
+#[derive(Clone, Copy)]
 pub enum Deed {
     // nothing; this answer and this phase are told
     Tells(Answer, u8),

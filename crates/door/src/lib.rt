@@ -1,5 +1,7 @@
 // One door: what is kept of it. Whether its fields fit its phase stands in the crate `door_fits`, and what a step does to
 // it in the crate `door_does`.
+#![tactic(auto)]
+
 ghost use Rattle.std.specs.Prelude.{◌≡◌};
 ghost use Rattle.door.specs.Door.{door, free_door, door_in};
 
@@ -7,7 +9,7 @@ use lists::{byte_at, word_at};
 use phases::phase::Phase;
 
 // What the record keeps of one door.
-#[derive(Drop)]
+#[derive(Clone, Copy)]
 pub struct Door {
     pub phase: u8,
     pub holder: u16,

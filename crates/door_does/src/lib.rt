@@ -1,10 +1,12 @@
 // What a step that may be done does to its door: the answer stands here, and the function that answers in `step`.
+#![tactic(auto)]
+
 pub mod step;
 
 use door::Door;
 
 // What a step does to its door.
-#[derive(Drop)]
+#[derive(Clone, Copy)]
 pub enum Does {
     // nothing
     Stays,

@@ -1,4 +1,6 @@
 // What a phase decides of its door: whether the door keeps a person, whether it holds a grant, and whether its fields fit.
+#![tactic(auto)]
+
 ghost use Rattle.std.specs.Prelude.{◌≡◌};
 ghost use Rattle.phases.specs.Phase.{keeps, grants};
 ghost use Rattle.door_fits.specs.Fits.{holder_fits, count_fits, fields_fit};

@@ -1,6 +1,7 @@
 // `events`: reads a site sheet and a steps sheet and writes the run's events as a syslog stream. The sheets are the two files that its
 // arguments name, or site.csv and steps.csv of the folder that it is run in. The stream is proved in the crate `stream`; here is only
 // reading and writing.
+#![tactic(auto)]
 use blank_lists::blank_sheet;
 use findings::Printed;
 use program_io::write_text;

@@ -1,11 +1,13 @@
 // What is told: what a search over a table finds, how long a way out is, and what became of a text.
+#![tactic(auto)]
+
 ghost use Rattle.std.specs.Prelude.{◌≡◌};
 ghost use Rattle.findings.specs.Told.{way_told_no, way_told_length, printed_no};
 
 use numbers::Paper;
 
 // What a search over a table finds: the smallest offender, or none.
-#[derive(Drop)]
+#[derive(Clone, Copy)]
 pub enum Found {
     // the smallest offender
     At(usize),
@@ -14,7 +16,7 @@ pub enum Found {
 }
 
 // What the search over people and locations finds: the smallest person, then the location; or none.
-#[derive(Drop)]
+#[derive(Clone, Copy)]
 pub enum RightFound {
     // the smallest person, and the smallest location of theirs
     At { person: usize, location: usize },
@@ -23,7 +25,7 @@ pub enum RightFound {
 }
 
 // What is told of a way out.
-#[derive(Drop)]
+#[derive(Clone, Copy)]
 pub enum WayTold {
     // its length; it stands in the front of the list that was lent
     Length(usize),
@@ -54,7 +56,7 @@ impl WayTold {
 }
 
 // What became of a text.
-#[derive(Drop)]
+#[derive(Clone, Copy)]
 pub enum Printed {
     // so many bytes at the front of the lent list are the text
     Text(usize),

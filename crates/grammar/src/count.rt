@@ -1,7 +1,7 @@
 // What counting a sheet's rows tells.
 
 // What counting the rows of a sheet finds.
-#[derive(Drop)]
+#[derive(Clone, Copy)]
 pub enum RowsCounted {
     // so many rows, and the sheet ends
     All(usize),

@@ -1,7 +1,7 @@
 // What the cutters look at and tell: the mode of a field, what a byte does, and what cutting a field or a row finds.
 
 // What the bytes of a field so far have led to.
-#[derive(Drop)]
+#[derive(Clone, Copy)]
 pub enum Mode {
     // no byte of the field yet
     Fresh,
@@ -17,7 +17,7 @@ pub enum Mode {
 
 // Where a field's content lies in the sheet: from `start` up to, not including, `end`. Where a quote in the content is
 // doubled, the bytes there aren't the content itself.
-#[derive(Drop)]
+#[derive(Clone, Copy)]
 pub struct Cell {
     pub start: usize,
     pub end: usize,
@@ -25,7 +25,7 @@ pub struct Cell {
 }
 
 // What a byte does.
-#[derive(Drop)]
+#[derive(Clone, Copy)]
 pub enum ByteMove {
     // the field goes on, in this mode and with this cell
     Go(Mode, Cell),
@@ -38,7 +38,7 @@ pub enum ByteMove {
 }
 
 // What cutting a field finds.
-#[derive(Drop)]
+#[derive(Clone, Copy)]
 pub enum FieldCut {
     // the field; a comma ends it, and the next field begins there
     Next(Cell, usize),
@@ -49,7 +49,7 @@ pub enum FieldCut {
 }
 
 // The fields of a row: how many, and where the first three lie.
-#[derive(Drop)]
+#[derive(Clone, Copy)]
 pub struct Cells {
     pub count: usize,
     pub first: Cell,
@@ -58,7 +58,7 @@ pub struct Cells {
 }
 
 // What cutting a row finds.
-#[derive(Drop)]
+#[derive(Clone, Copy)]
 pub enum RowCut {
     // the row's fields; the next row begins there (at the sheet's length: the sheet ends)
     Cut(Cells, usize),

@@ -1,4 +1,6 @@
 // Which door holds a grant of a person, why a person is denied a door, and which door is told with the reason.
+#![tactic(auto)]
+
 ghost use Rattle.std.specs.Prelude.{◌≡◌, List, ℕ};
 ghost use Rattle.tables.specs.Tables.{plan};
 ghost use Rattle.granting.specs.Grants.{grants_to, grant_of, has_grant};

@@ -1,5 +1,7 @@
 // A step of a record that is lent for it: whoever holds the one record lends it to the thin step, and
 // finds it altered, or as it was after a refusal.
+#![tactic(auto)]
+
 ghost use Rattle.std.specs.Prelude.{◌≡◌};
 ghost use Rattle.record.specs.Steps.{step_of};
 

@@ -1,4 +1,6 @@
 // Entries of lent lists: total, so that whoever reads or writes a list need not know its length.
+#![tactic(auto)]
+
 ghost use Rattle.std.specs.Prelude.{◌≡◌, false, get_or, set};
 
 // The entry of a list of numbers, and 0 past its end.

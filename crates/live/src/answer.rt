@@ -11,7 +11,7 @@ use record::record::Record;
 
 // What is known from turn to turn: the record, the number of the row that comes next, 0 for the header, where the bytes that aren't
 // answered yet lie in the list that holds them, and whether all is over.
-#[derive(Drop)]
+#[derive(Clone, Copy)]
 pub(crate) struct State {
     pub record: Record,
     pub number: usize,

@@ -6,7 +6,7 @@ use reader::row_at;
 const LF: u8 = 10;
 
 // What the bytes held are.
-#[derive(Drop)]
+#[derive(Clone, Copy)]
 pub(crate) enum Held {
     // a row up to this place: a whole one, or one that is of bad form whatever follows
     Row(usize),

@@ -5,6 +5,7 @@
 // tested (tests/live).
 //
 // `incoming` finds the rows in the bytes that have come; `answer` answers one; `say` writes; here are the loop and what comes before it.
+#![tactic(auto)]
 mod answer;
 mod incoming;
 mod say;

@@ -1,5 +1,7 @@
 // Rows of numbers as text: `put_row` writes one at a place of a lent list. What a row is stands in text/specs/Text.antt, and what the
 // function promises in text/specs/Wrote.antt.
+#![tactic(auto)]
+
 ghost use Rattle.text.specs.Text.{row_of_numbers};
 ghost use Rattle.text.specs.Wrote.{Wrote};
 

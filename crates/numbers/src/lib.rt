@@ -1,8 +1,9 @@
 // The papers' numbers, each under one name: what is given back to whoever has a sheet read, a step done, a question answered or
 // a text written. 01, "Numbers given back", and 02. The definitions have the same numbers in specs/Numbers.antt.
+#![tactic(auto)]
 
 // The papers' numbers.
-#[derive(Drop)]
+#[derive(Clone, Copy)]
 pub struct Paper;
 
 impl Paper {

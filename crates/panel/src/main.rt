@@ -1,6 +1,7 @@
 // `panel`: reads a site sheet and a steps sheet and writes what the panel answers to each row. The sheets are the two files that
 // its arguments name, or site.csv and steps.csv of the folder that it is run in. The text is proved in the crate `run`; here is only
 // reading and writing.
+#![tactic(auto)]
 use blank_lists::{blank_panel_text, blank_sheet};
 use findings::Printed;
 use program_io::write_text;

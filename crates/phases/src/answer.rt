@@ -5,7 +5,7 @@ ghost use Rattle.phases.specs.Answers.{answer_no};
 use numbers::Paper;
 
 // How a step or a run ends.
-#[derive(Drop)]
+#[derive(Clone, Copy)]
 pub enum Answer {
     // 0: done
     Done,
@@ -35,7 +35,7 @@ impl Answer {
 }
 
 // Why a card was denied.
-#[derive(Drop)]
+#[derive(Clone, Copy)]
 pub struct Reason;
 
 impl Reason {

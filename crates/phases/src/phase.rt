@@ -1,7 +1,7 @@
 // The ten phases of a door and the two spans of its lights, each under one fixed name.
 
 // The phase of a door, a number from 0 to 9.
-#[derive(Drop)]
+#[derive(Clone, Copy)]
 pub struct Phase;
 
 impl Phase {
@@ -27,7 +27,7 @@ impl Phase {
 }
 
 // How long a light burns, in ticks of its door's own clock.
-#[derive(Drop)]
+#[derive(Clone, Copy)]
 pub struct Span;
 
 impl Span {

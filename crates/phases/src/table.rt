@@ -6,7 +6,7 @@ ghost use Rattle.phases.specs.Table.{asked};
 use crate::phase::Phase;
 
 // The ten steps. A number that names none of them is an unknown step, which no phase allows.
-#[derive(Drop)]
+#[derive(Clone, Copy)]
 pub enum Kind {
     // a card is shown, and the door holds its person
     Card,

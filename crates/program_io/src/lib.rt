@@ -1,5 +1,6 @@
 // What a program is asked for and what it gives: a number from the command line, and a text on standard output. What goes wrong
 // is said on standard error.
+#![tactic(auto)]
 ghost use Rattle.std.specs.Prelude.{◌≡◌, cond, length, leb};
 ghost use Rattle.program_io.specs.{Asked};
 

@@ -1,5 +1,7 @@
 // The three questions: where is a person, which door is granted to a person, and the way out of a
 // location. Each answers 14, then 11, then 13.
+#![tactic(auto)]
+
 ghost use Rattle.std.specs.Prelude.{◌≡◌, length, get_or, ltb};
 ghost use Rattle.tables.specs.Way.{way_of};
 ghost use Rattle.granting.specs.Grants.{grant_of};

@@ -1,6 +1,8 @@
 // The row reader: it holds a sheet and the byte that it has come to. Its functions are thin over the row cutter, which takes the
 // sheet and the place. `row_at` stands above them: a loop over the rows of a sheet asks it for each row, and needs no reader of
 // its own. `count` counts the rows of a whole sheet.
+#![tactic(auto)]
+
 ghost use Rattle.std.specs.Prelude.{◌≡◌};
 ghost use Rattle.grammar.specs.Cut.{cut_row};
 ghost use Rattle.reader.specs.Reader.{reader_at};
@@ -10,7 +12,7 @@ use sheet::cut::cut_row;
 
 pub mod count;
 
-#[derive(Drop)]
+#[derive(Clone, Copy)]
 pub struct Reader<'a> {
     pub sheet: &'a [u8],
     pub at: usize,

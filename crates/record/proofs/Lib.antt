@@ -7,7 +7,6 @@
 --     Asked      the questions' answers by the paper's numbers and values
 --     Ask        what the questions tell
 --     Fresh      the fresh record is sound
---     Lies       a record in a local lies in memory
 pub mod Keep
 pub mod Right
 pub mod Tells
@@ -16,4 +15,3 @@ pub mod Laws
 pub mod Asked
 pub mod Ask
 pub mod Fresh
-pub mod Lies

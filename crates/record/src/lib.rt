@@ -1,6 +1,8 @@
 // The record of people and doors: what it holds and when it is sound (`record`), the ten steps
 // (`steps`), the thin step on a record that is lent (`lent`), and what the run of a list of steps hands
 // back (`series`).
+#![tactic(auto)]
+
 mod lent;
 pub mod record;
 pub mod series;

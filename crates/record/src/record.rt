@@ -13,7 +13,7 @@ use tables::{MOST_DOORS, MOST_LOCATIONS, MOST_PEOPLE, MOST_RIGHTS};
 // MOST_LOCATIONS to a person. Beside them: the location of each person, and for each door its phase,
 // the person whom it holds and its countdown.
 #[repr(C)]
-#[derive(Drop)]
+#[derive(Clone, Copy)]
 pub struct Record {
     pub people: usize,
     pub locations: usize,

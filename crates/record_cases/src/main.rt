@@ -6,6 +6,7 @@
 // The name of a step does it in five ways, from the same record: by `step`, by `step_numbered`, on the record that is lent, by `run`
 // and by the method of that name, whose record is kept. `short` runs a step with no room in one list, by the list's number.
 // `sound`, `where`, `granted`, `way` and `sole` ask.
+#![tactic(auto)]
 mod ask;
 mod put;
 mod step;

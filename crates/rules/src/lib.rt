@@ -3,6 +3,8 @@
 // The tables are lent, never copied: `origin` and `destination` have an entry for each door, `exit`
 // one for each location, `right` MOST_LOCATIONS for each person. Past the end of a table an entry
 // is 0, and a right is not given. Location 0 is outside, and everybody's.
+#![tactic(auto)]
+
 ghost use Rattle.std.specs.Prelude.{◌≡◌, ℕ, ◌+◌, ◌≤◌, List, false, length, get_or, replicate};
 ghost use Rattle.std.proofs.lemmas.List.Edits.{sets};
 ghost use Rattle.tables.specs.Tables.{plan, may_be, most_locations};

@@ -2,4 +2,6 @@
 //
 // The definitions are in specs/, in the words of paper 01, "Program and one whole run". The types are those that the crate `run`
 // answers with.
+#![tactic(auto)]
+
 pub mod serve;

@@ -1,4 +1,5 @@
 // Sheets from files, and a stream from standard input. What goes wrong is said on standard error.
+#![tactic(auto)]
 ghost use Rattle.io.specs.Counts.{IsPrefixLen};
 
 // Whether a file has come to its end: a read finds nothing, and doesn't fail.

@@ -2,6 +2,8 @@
 //
 // Crate `site_tables` takes the rows; here the whole sheet is answered: its length, its header, and the rules over its tables. The
 // definitions, and the theorems of them, are those of crates `site_lines` and `site_sheet`.
+#![tactic(auto)]
+
 ghost use Rattle.std.specs.Prelude.{◌≡◌};
 ghost use Rattle.site_lines.specs.Line.{site_header_at};
 ghost use Rattle.site_sheet.specs.Site.{accepted_site, refused_site, judged_by10, judged_from8, judged_draft, settled, site_of};

@@ -24,7 +24,7 @@ use Rattle.site_lines.specs.declared.SiteLine.TheVariants.{Site, Door, Exit, Rig
 use Rattle.site_lines.specs.declared.Draft.{Draft}
 use Rattle.site_lines.specs.Draft.{plan_in}
 use Rattle.site_lines.specs.Says.{Among, first, behind, HasExit, Holds, people_in, locations_in, origins_in, destinations_in, is_exit, has_exit, exit_in, LineInRange, exit_range, second_exit}
-use Rattle.site_lines.specs.Gives.{FineLines, one_fine, RowsFine, ExitOf, ComesOut, outside, onward, ExitHasDoor, MayBeIn, everybodys, by_row, RightToExit, ComesIn, Six, Seven, Eight, Nine, Ten}
+use Rattle.site_lines.specs.Gives.{FineLines, all_fine, one_fine, RowsFine, ExitOf, ComesOut, outside, onward, ExitHasDoor, MayBeIn, everybodys, by_row, RightToExit, ComesIn, Six, Seven, Eight, Nine, Ten}
 use Rattle.site_lines.proofs.Said.{exit_more, has_exit_lem, exit_has, right_row, right_has}
 use Rattle.site_lines.proofs.Held.{Held, Ranged}
 
@@ -46,7 +46,7 @@ record DoorAt (lines : List SiteLine) (o t : ℕ) : Type 0 where
   starts : get_or (origins_in lines) place 0 ≡ o
   ends : get_or (destinations_in lines) place 0 ≡ t
 
-door_at_lem : {lines : List SiteLine} {o t : ℕ} → Among (Door o t) lines → DoorAt lines o t
+door_at_lem : {o t : ℕ} {lines : List SiteLine} → Among (Door o t) lines → DoorAt lines o t
 unfolding origins_in destinations_in
 door_at_lem first = record { place = 0; exists = omega arith; starts = refl; ends = refl }
 door_at_lem (behind {other = Site p l} b) = let d = door_at_lem b in record { place = d.place; exists = d.exists; starts = d.starts; ends = d.ends }
@@ -67,6 +67,7 @@ exit_inside (exit_range i a b) = i
 
 exit_line : {before lines : List SiteLine} {l m : ℕ} → FineLines before lines → Among (Exit l m) lines → ExitLine before lines l m
 unfolding exit_in has_exit
+exit_line {l = l} {m = m} (all_fine {before = before}) a = elim a [ ]
 exit_line {before} {l = l} (one_fine f a) first =
     record { inside = exit_inside f.in_range; new = not_so _ (λ e. f.new (second_exit (has_exit_lem l before e))); is = rw (eq-eqb l l refl) }
 exit_line {before} {l = l} (one_fine {line = line} f a) (behind b) =

@@ -91,7 +91,7 @@ module _ (k : ℕ) where
       go true q e' more = record { to = m; row = rw (eqb-true l k q) first }
       go false q e' more = exit_behind (more e')
 
-  pub exit_has : {lines : List SiteLine} {m : ℕ} → Among (Exit k m) lines → has_exit k lines ≡ true
+  pub exit_has : {m : ℕ} {lines : List SiteLine} → Among (Exit k m) lines → has_exit k lines ≡ true
   unfolding has_exit
   exit_has first = or_left _ _ (eq-eqb k k refl)
   exit_has (behind b) = or_right _ _ (exit_has b)

@@ -1,10 +1,12 @@
 // What the rows of a site sheet say: a row, the tables while a sheet is being read, and how far it was read. The
 // definitions are in specs/, in the words of paper 01, "Site sheet" and "Numbers given back", and the theorems of
 // them in proofs/. There is no function here, and nothing of a record.
+#![tactic(auto)]
+
 use tables::{MOST_DOORS, MOST_LOCATIONS, MOST_RIGHTS};
 
 // The first field of a row.
-#[derive(Drop)]
+#[derive(Clone, Copy)]
 pub enum Word {
     // `site`
     Site,
@@ -19,7 +21,7 @@ pub enum Word {
 }
 
 // A row, or that it is of bad form.
-#[derive(Drop)]
+#[derive(Clone, Copy)]
 pub enum SiteLine {
     // so many people and so many locations
     Site(usize, usize),
@@ -34,7 +36,7 @@ pub enum SiteLine {
 }
 
 // The counts. No locations as long as the `site` row hasn't come.
-#[derive(Drop)]
+#[derive(Clone, Copy)]
 pub struct Counts {
     pub people: usize,
     pub locations: usize,
@@ -56,7 +58,7 @@ pub struct Draft {
 }
 
 // What is wrong with a row.
-#[derive(Drop)]
+#[derive(Clone, Copy)]
 pub enum Fault {
     // nothing
     Sound,
@@ -71,14 +73,14 @@ pub enum Fault {
 }
 
 // The counts after a row, and what is wrong with it.
-#[derive(Drop)]
+#[derive(Clone, Copy)]
 pub struct RowTaken {
     pub counts: Counts,
     pub fault: Fault,
 }
 
 // Where the rows of a sheet stopped: the counts then, what is wrong with the last row, and its number.
-#[derive(Drop)]
+#[derive(Clone, Copy)]
 pub struct Stop {
     pub counts: Counts,
     pub fault: Fault,

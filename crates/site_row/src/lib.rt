@@ -1,5 +1,7 @@
 // What a row of a site sheet says: a line of the site, or that it is of bad form. The definitions, and the theorems of them, are
 // those of crate `site_lines`.
+#![tactic(auto)]
+
 ghost use Rattle.std.specs.Prelude.{◌≡◌};
 ghost use Rattle.site_lines.specs.Line.{word_of, site_line_at};
 

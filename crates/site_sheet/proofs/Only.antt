@@ -32,7 +32,7 @@ use Rattle.site_lines.specs.Draft.{blank_draft, plan_in}
 use Rattle.site_lines.specs.Taking.{verdict_of, lines_in, read_lines}
 use Rattle.site_sheet.specs.Site.{accepted_site, judged_draft, settled, after_header, site_at}
 use Rattle.site_lines.specs.Says.{people_in, locations_in, SiteHeaderRow, LineInRange, site_range, door_range, exit_range, right_range, NotFirst, door_first, exit_first, right_first, Fine, Wrong, of_form, no_site, out_of_range, said_again}
-use Rattle.site_lines.specs.Gives.{Headed, FineLines, one_fine, WrongAt, here, further, RowsFine, ExitOf, ComesOut, ExitHasDoor, RightToExit, ComesIn, Six, Seven, Eight, Nine, Ten, Obeys, Gives, gives_0, gives_1, gives_header, gives_row, gives_5, gives_6, gives_7, gives_8, gives_9, gives_10}
+use Rattle.site_lines.specs.Gives.{Headed, FineLines, all_fine, one_fine, WrongAt, here, further, RowsFine, ExitOf, ComesOut, ExitHasDoor, RightToExit, ComesIn, Six, Seven, Eight, Nine, Ten, Obeys, Gives, gives_0, gives_1, gives_header, gives_row, gives_5, gives_6, gives_7, gives_8, gives_9, gives_10}
 use Rattle.site_lines.proofs.Held.{Held, held_blank}
 use Rattle.site_lines.proofs.Obeyed.{Ruled, rules_of}
 use Rattle.site_lines.proofs.Outcome.{fine}
@@ -97,6 +97,7 @@ wrong_once (further x w) (here v) = absurd (fine_not_wrong x v)
 wrong_once (further x w) (further y v) = let o = wrong_once w v in record { place = ap (λ (n : ℕ). n + 1) o.place; fault = o.fault }
 
 all_not_wrong : {before lines : List SiteLine} {k : ℕ} {f : Fault} → FineLines before lines → WrongAt before lines k f → ⊥
+all_not_wrong {k = k} {f = f} (all_fine {before = before}) w = elim w [ ]
 all_not_wrong (one_fine x a) (here w) = fine_not_wrong x w
 all_not_wrong (one_fine x a) (further y w) = all_not_wrong a w
 

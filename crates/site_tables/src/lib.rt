@@ -2,6 +2,8 @@
 //
 // Crate `site_row` has what a row says, `row` how it goes into the tables. The definitions, and the theorems of them, are those of
 // crate `site_lines`.
+#![tactic(auto)]
+
 ghost use Rattle.std.specs.Prelude.{◌≡◌};
 ghost use Rattle.grammar.specs.Rows.{rows_from};
 ghost use Rattle.site_lines.specs.Draft.{blank_draft};

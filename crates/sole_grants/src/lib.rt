@@ -3,6 +3,8 @@
 // A walk has marks for as many people as a record has room for, from some person on: in a record whose doors fit one walk is enough. A
 // person beyond the marks can't be marked. Where a grant is of such a person, the walk tells so, and another has its marks for the next
 // people.
+#![tactic(auto)]
+
 ghost use Rattle.std.specs.Prelude.{◌≤◌, ◌≡◌, false, replicate};
 ghost use Rattle.tables.specs.Tables.{most_people};
 ghost use Rattle.sole_grants.specs.Sole.{sole_grants};
@@ -13,7 +15,7 @@ use lists::{byte_at, word_at};
 use tables::MOST_PEOPLE;
 
 // What a walk tells of the people that it has marks for.
-#[derive(Drop)]
+#[derive(Clone, Copy)]
 enum Walked {
     // One of them has two grants.
     Twice,

@@ -1,5 +1,7 @@
 // Are lent lists as a sound record's are? Each sentence of the paper's section is a test over the
 // lists that it speaks of, which are never copied.
+#![tactic(auto)]
+
 ghost use Rattle.std.specs.Prelude.{◌≡◌, List, ℕ, ◌<◌, length};
 ghost use Rattle.tables.specs.Tables.{plan};
 ghost use Rattle.door_fits.specs.Fits.{is_free};

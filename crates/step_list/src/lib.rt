@@ -1,5 +1,7 @@
 // The run of a list of steps. The record is tested once; then each step goes to the record that the
 // step before it handed back.
+#![tactic(auto)]
+
 ghost use Rattle.std.specs.Prelude.{◌≡◌, map, ◌≤◌, length};
 ghost use Rattle.std.proofs.lemmas.List.Edits.{sets};
 ghost use Rattle.record.specs.Sound.{Sound};

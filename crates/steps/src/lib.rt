@@ -2,6 +2,8 @@
 //
 // Crate `steps_row` has what a row says; here is the whole sheet: what its beginning is, and its steps in three lent lists. The
 // definitions, and the theorems of them, are those of crate `steps_sheet`.
+#![tactic(auto)]
+
 ghost use Rattle.std.specs.Prelude.{◌≡◌, true};
 ghost use Rattle.steps_sheet.specs.Steps.{steps_header_at, heading_of};
 ghost use Rattle.steps_sheet.specs.Lent.{most_in, room_for_steps, steps_room_in, decoded_in, kinds_listed, doors_listed, persons_listed};

@@ -1,5 +1,7 @@
 // What a row of a steps sheet says: a step with its door and its person, or that it is of bad form. The definitions, and the
 // theorems of them, are those of crate `steps_sheet`.
+#![tactic(auto)]
+
 ghost use Rattle.std.specs.Prelude.{◌≡◌};
 ghost use Rattle.steps_sheet.specs.Steps.{kind_at, kind_from, person_at, steps_line_at};
 

@@ -1,11 +1,13 @@
 // What a steps sheet says: its header, and the steps of its rows up to the first of bad form. The definitions are in specs/, in
 // the words of paper 01, "Program and one whole run", and the theorems of them in proofs/. There is no function here: the types are
 // those that `steps_row` and `steps` answer with.
+#![tactic(auto)]
+
 use phases::answer::Answer;
 use phases::table::Kind;
 
 // What the beginning of a steps sheet is.
-#[derive(Drop)]
+#[derive(Clone, Copy)]
 pub enum Heading {
     // over the limit
     TooLong,
@@ -16,7 +18,7 @@ pub enum Heading {
 }
 
 // What a row says.
-#[derive(Drop)]
+#[derive(Clone, Copy)]
 pub enum StepsLine {
     // a step of this kind at this door, with this person, 0 where the row has none
     Step(Kind, u16, u16),
@@ -26,7 +28,7 @@ pub enum StepsLine {
 
 // What became of the rows of a sheet: done, so many steps, and whether the sheet ends behind them or a row of bad form follows;
 // or a lent list was too short.
-#[derive(Drop)]
+#[derive(Clone, Copy)]
 pub struct Decoded {
     pub answer: Answer,
     pub count: usize,

@@ -1,4 +1,6 @@
 // Lists of zeros that the programs lend: for a stream that is read, for the stream that `events` prints, and for the text of `read-events`.
+#![tactic(auto)]
+
 ghost use Rattle.std.specs.Prelude.{◌+◌, ◌≡◌, replicate};
 ghost use Rattle.syslog.specs.Rows.{most_stream};
 ghost use Rattle.stream_lists.specs.{most_events_text, most_rows_text};

@@ -1,5 +1,7 @@
 // The events of a stream as rows: what `read-events` prints. What a stream says stands in syslog/specs/Reading.antt, the rows in
 // syslog/specs/Rows.antt.
+#![tactic(auto)]
+
 ghost use Rattle.text.specs.Wrote.{Wrote};
 ghost use Rattle.text.specs.Printed.{Prints};
 ghost use Rattle.syslog.specs.Line.{name_of};

@@ -5,13 +5,15 @@
 // `Reading` what a list of bytes reads as, `Rows` what `read-events` prints, `Numbers` the answers' numbers, `Guess` how the reader
 // finds an event, `Claims` what the theorems say, `Examples` lines byte for byte. The theorems are in proofs/Theorems.antt. The types
 // are those with which `syslog_write` and `syslog_read` answer.
+#![tactic(auto)]
+
 ghost use Rattle.std.specs.Prelude.{◌≡◌};
 ghost use Rattle.syslog.specs.Numbers.{written_no, line_read_no, frame_read_no};
 
 use numbers::Paper;
 
 // What an event is: the MSGID of its line.
-#[derive(Drop)]
+#[derive(Clone, Copy)]
 pub enum Msgid {
     // a card is granted
     Grant,
@@ -25,7 +27,7 @@ pub enum Msgid {
 
 // An event: what it is, at which door, the card's person, for a denial its reason, else 0, and for a denial with reason 3 the door
 // that holds the person's grant, else 0.
-#[derive(Drop)]
+#[derive(Clone, Copy)]
 pub struct LineEvent {
     pub msgid: Msgid,
     pub door: usize,
@@ -35,7 +37,7 @@ pub struct LineEvent {
 }
 
 // What became of a line or a frame that was to be written.
-#[derive(Drop)]
+#[derive(Clone, Copy)]
 pub enum LineWritten {
     // so many bytes at the front of the lent list are the text
     Text(usize),
@@ -60,7 +62,7 @@ impl LineWritten {
 }
 
 // What a list of bytes reads as.
-#[derive(Drop)]
+#[derive(Clone, Copy)]
 pub enum LineRead {
     // the line of this event
     Is(LineEvent),
@@ -81,7 +83,7 @@ impl LineRead {
 }
 
 // What begins at a place of a stream.
-#[derive(Drop)]
+#[derive(Clone, Copy)]
 pub enum FrameRead {
     // the frame of this event, and the place behind it
     Frame(LineEvent, usize),

@@ -5,6 +5,7 @@
 // told, whether the list was altered behind that, the number for a list of just that length, the number for one a byte shorter, whether
 // that one was altered, and the text. Then each line of the file `cases` is read: as a line, as a stream from its front on, and as a
 // frame behind its end.
+#![tactic(auto)]
 mod read;
 mod write;
 

@@ -9,7 +9,7 @@ const ROOM: usize = 64;
 const EVENTS: usize = 2500;
 
 // What an event is written as.
-#[derive(Drop)]
+#[derive(Clone, Copy)]
 enum Form {
     // a line
     Line,

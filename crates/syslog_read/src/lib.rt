@@ -3,6 +3,8 @@
 //
 // Nothing is parsed strictly. A guess is made of any bytes: the MSGID by its first letter, the numbers behind the first four `=`. The
 // bytes are then compared with the guess's own text, and that decides.
+#![tactic(auto)]
+
 ghost use Rattle.std.specs.Prelude.{◌<◌, ◌≡◌, true};
 ghost use Rattle.tables.specs.Below.{Tells};
 ghost use Rattle.syslog.specs.Line.{line_of, framed_of, fits_line};

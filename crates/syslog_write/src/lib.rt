@@ -1,6 +1,8 @@
 // Writing syslog lines: `put_line` and `put_frame` write the text of an event at a place of a lent list, as the functions of `text`
 // do; `write_line` and `write_frame` write it into the front of a list, or say why not. What the text is stands in
 // syslog/specs/Line.antt, what is promised in syslog/specs/Lent.antt.
+#![tactic(auto)]
+
 ghost use Rattle.std.specs.Prelude.{◌≡◌, leb};
 ghost use Rattle.tables.specs.Tables.{and_also};
 ghost use Rattle.text.specs.Wrote.{Wrote};

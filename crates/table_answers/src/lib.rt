@@ -1,2 +1,3 @@
 // Demand 1 of lists, tables, phases and one door is a theorem: it says what follows of the definitions of the crates below, in proofs/, and
 // has no function.
+#![tactic(auto)]

@@ -4,6 +4,7 @@
 // `where`, and the stream of `events`, if there is one, with CRLF behind it. Behind each text of a steps sheet of at most 1,024 bytes
 // stands what a list gives that is one byte too short for it (13, and no byte of the list is altered) and one that is just long enough
 // (0, and the text). tests/make-vectors makes the sheets, and from the papers' reference what is expected.
+#![tactic(auto)]
 use blank_lists::{blank_panel_text, blank_sheet};
 use findings::Printed;
 use libc::STDOUT_FILENO;
@@ -22,7 +23,7 @@ const MOST_LENT: usize = 2048;
 const MOST_CASES: usize = 10000;
 
 // Which of the three texts.
-#[derive(Drop)]
+#[derive(Clone, Copy)]
 enum Text {
     // what `panel` prints
     Panel,

@@ -1,12 +1,14 @@
 // What is said of a site sheet: the verdict, with its number and the places that are told with it. The
 // definitions are in specs/, in the words of paper 01, "Numbers given back".
+#![tactic(auto)]
+
 ghost use Rattle.std.specs.Prelude.{◌≡◌};
 ghost use Rattle.verdict.specs.Numbers.{verdict_no, first_place, second_place};
 
 use numbers::Paper;
 
 // What is said of a sheet, with the place that is told.
-#[derive(Drop)]
+#[derive(Clone, Copy)]
 pub enum Verdict {
     // 0: the sheet obeys every rule
     Accepted,

@@ -1,6 +1,7 @@
 // `where`: reads a site sheet and a steps sheet and writes where everyone is after the steps. The sheets are the two files that
 // its arguments name, or site.csv and steps.csv of the folder that it is run in. The text is proved in the crate `run`; here is only
 // reading and writing.
+#![tactic(auto)]
 use blank_lists::{blank_sheet, blank_where_text};
 use findings::Printed;
 use program_io::write_text;

@@ -1,0 +1,7 @@
+-- `sheet::cut::no_cells` meets its contract.
+-- Assumes nothing.
+use borrow.Author.Rules.{rules}
+use Rattle.sheet.proofs.cut.no_cells.Goals as goal
+
+pub returns : goal.returns
+returns c = rw c.empty_at-none.ensures

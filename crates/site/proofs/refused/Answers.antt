@@ -1,0 +1,10 @@
+-- `site::refused` meets its contract.
+-- Assumes nothing.
+use Rattle.site_lines.specs.Draft.{unmarked}
+use Rattle.tables.specs.Zero.{zeros}
+use borrow.Author.Rules.{rules}
+use Rattle.site.proofs.refused.Goals as goal
+
+pub returns : goal.returns
+unfolding zeros unmarked
+returns c = rw (c.fresh.ensures, c.blank_rights.ensures)

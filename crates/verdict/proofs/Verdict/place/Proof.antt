@@ -1,8 +1,0 @@
--- `Verdict::place` meets its contract. The prover finds this by itself; it is written down so that a wrong answer is refused without a second look.
--- Assumes nothing.
-use borrow.Author.Rules.{rules}
-use Rattle.verdict.proofs.Verdict.place.Statement.{statement}
-use Rattle.verdict.proofs.Verdict.place.Tie as tie
-
-pub place-spec : {M : Type 1} → statement M
-place-spec = tie.close (tie.spec (λ c. search rules) (λ c. search rules) (λ c. search rules) (λ c. search rules) (λ c. search rules) (λ c. search rules) (λ c. search rules) (λ c. search rules) (λ c. search rules) (λ c. search rules) (λ c. search rules) (λ c. search rules) (λ c. search rules) (λ c. search rules) (λ c. search rules) (λ c. search rules) (λ c. search rules) (λ c. search rules) (λ c. search rules) (λ c. search rules) (λ c. search rules) (λ c. search rules))
