@@ -4,6 +4,7 @@
 // `attend` takes the lent record; `attend_once` lends it one, for whoever holds it by value. A row of bad form asks for no step, which no
 // phase allows, so that the record stays as it was. The definitions are in specs/Attend.antt.
 #![tactic(auto)]
+
 ghost use Rattle.std.specs.Prelude.{◌≡◌};
 ghost use Rattle.text.specs.Wrote.{Wrote};
 ghost use Rattle.attend.specs.Attend.{row_says, asked_by, shown_row, Attends};

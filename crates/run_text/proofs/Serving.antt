@@ -14,7 +14,7 @@ use Rattle.record.specs.declared.record.Record.{Record}
 use Rattle.record.specs.declared.series.Ran.{Ran}
 use Rattle.phases.specs.declared.answer.Answer.TheVariants.{Done}
 use Rattle.record.specs.SoundTest.{sound_b}
-use Rattle.record.specs.Run.{Reply, rows_of, last_of, replies_of, answer_told, phase_told, reason_told, held_told, room_for, room_in, ran_of, telling_of, run_of}
+use Rattle.record.specs.Run.{Reply, rows_of, row_of, last_of, replies_of, answer_told, phase_told, reason_told, held_told, room_for, room_in, ran_of, telling_of, run_of}
 use Rattle.phases.specs.Kinds.{StepRow}
 use Rattle.phases.proofs.Steps.{kind_back}
 use Rattle.steps_sheet.specs.declared.Decoded.{Decoded}
@@ -120,7 +120,7 @@ module _ (r : Record) (steps : Steps) (answers phases reasons held : List ℕ) (
 pub replies_length : (r : Record) (rows : List StepRow) → length (replies_of r rows) ≡ length rows
 unfolding replies_of
 replies_length r [] = refl
-replies_length r (first ∷ rows) = ap suc (replies_length _ rows)
+replies_length r (first ∷ rows) = ap suc (replies_length (row_of r first).next rows)
 
 pub told_length : (tell : Reply → ℕ) (r : Record) (rows : List StepRow) → length (map tell (replies_of r rows)) ≡ length rows
 told_length tell r rows = length-map (replies_of r rows) tell ∙ replies_length r rows

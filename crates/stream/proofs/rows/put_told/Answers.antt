@@ -1,0 +1,38 @@
+-- `put_told` meets its contract: a step that was done writes the frame of its event, if it has one. Assumes nothing.
+use Prim.Native.Nat.{ℕ}
+use mathlib.Core.List.{List, [], ◌∷◌}
+use types.Run.{miss}
+use native.Mathlib.Omega.{arith}
+use borrow.Author.Rules.{rules}
+use Rattle.text.proofs.Writing.{said}
+use Rattle.stream_text.proofs.Rows.{nothing_written, told_refused, told_nothing, told_decided, told_passed, told_lapsed}
+use Rattle.stream.proofs.rows.put_told.Goals as goal
+
+pub returns-then-answer-ne-DONE : goal.returns-then-answer-ne-DONE
+returns-then-answer-ne-DONE c =
+    let a = c.args in
+    nothing_written _ (told_refused a.kind a.answer a.phase a.reason a.held a.door a.person c.if-answer-ne-DONE.true) (omega arith) (omega arith)
+
+pub returns-in-Decide : goal.returns-in-Decide
+returns-in-Decide c =
+    let a = c.args in
+    said (told_decided a.kind a.answer a.phase a.reason a.held a.door a.person c.in-Decide.is c.if-answer-ne-DONE.false) c.put_decided.ensures
+
+pub returns-in-Passed : goal.returns-in-Passed
+returns-in-Passed c =
+    let a = c.args in
+    said (told_passed a.kind a.answer a.phase a.reason a.held a.door a.person c.in-Passed.is c.if-answer-ne-DONE.false) c.put_frame.ensures
+
+pub returns-in-Lapsed : goal.returns-in-Lapsed
+returns-in-Lapsed c =
+    let a = c.args in
+    said (told_lapsed a.kind a.answer a.phase a.reason a.held a.door a.person c.in-Lapsed.is c.if-answer-ne-DONE.false) c.put_frame-in-Lapsed.ensures
+
+pub returns-in_default : goal.returns-in_default
+returns-in_default c =
+    let a = c.args in
+    let others : List ℕ = 0 ∷ 2 ∷ 3 ∷ 4 ∷ 5 ∷ 8 ∷ 9 ∷ 10 ∷ [] in
+    nothing_written _
+    (told_nothing a.kind a.answer a.phase a.reason a.held a.door a.person (λ is. miss others 1 tt (rw is at c.in_default.keys4))
+    (λ is. miss others 6 tt (rw is at c.in_default.keys4)) (λ is. miss others 7 tt (rw is at c.in_default.keys4)) c.if-answer-ne-DONE.false)
+    (omega arith) (omega arith)
