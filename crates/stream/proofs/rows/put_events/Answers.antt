@@ -23,7 +23,7 @@ pub loop-i-preserved : goal.loop-i-preserved
 loop-i-preserved c =
     let wrote = c.put_event-next.ensures in
     events_more c.loop-i.invariant c.requires c.loop-i-test.true c.of-kind.ensures c.byte_at-answer.ensures c.byte_at-phase.ensures
-    c.byte_at-reason.ensures refl c.word_at-door.ensures c.word_at-person.ensures refl wrote.0 refl wrote.1
+    c.byte_at-reason.ensures refl c.word_at-door.ensures c.word_at-person.ensures refl wrote.wrote refl wrote.cards
 
 pub returns : goal.returns
 returns c = events_end c.loop-i.invariant c.loop-i-test.false

@@ -1,7 +1,6 @@
 -- `put_told` meets its contract: a step that was done writes the frame of its event, if it has one. Assumes nothing.
 use Prim.Native.Nat.{ℕ}
 use mathlib.Core.List.{List, [], ◌∷◌}
-use types.Run.{miss}
 use native.Mathlib.Omega.{arith}
 use borrow.Author.Rules.{rules}
 use Rattle.text.proofs.Writing.{said}
@@ -31,8 +30,7 @@ returns-in-Lapsed c =
 pub returns-in_default : goal.returns-in_default
 returns-in_default c =
     let a = c.args in
-    let others : List ℕ = 0 ∷ 2 ∷ 3 ∷ 4 ∷ 5 ∷ 8 ∷ 9 ∷ 10 ∷ [] in
     nothing_written _
-    (told_nothing a.kind a.answer a.phase a.reason a.held a.door a.person (λ is. miss others 1 tt (rw is at c.in_default.keys4))
-    (λ is. miss others 6 tt (rw is at c.in_default.keys4)) (λ is. miss others 7 tt (rw is at c.in_default.keys4)) c.if-answer-ne-DONE.false)
+    (told_nothing a.kind a.answer a.phase a.reason a.held a.door a.person c.in_default.not-Decide
+    c.in_default.not-Passed c.in_default.not-Lapsed c.if-answer-ne-DONE.false)
     (omega arith) (omega arith)

@@ -11,7 +11,7 @@ use borrow.Author.Rules.{rules}
 use Rattle.stream.proofs.texts.print_headed.Goals as goal
 
 pub print_steps-requires : goal.print_steps-requires
-print_steps-requires c = (c.requires, headed_short limit c.args.steps.now (sym c.heading_of.ensures ∙ c.in-Rows.is))
+print_steps-requires c = record { fresh_value = c.requires; s_len_bound = headed_short limit c.args.steps.now (sym c.heading_of.ensures ∙ c.in-Rows.is) }
 
 pub returns-in-TooLong : goal.returns-in-TooLong
 returns-in-TooLong c =

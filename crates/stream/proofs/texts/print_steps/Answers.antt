@@ -29,7 +29,7 @@ slice_bounds-print_run-end c =
     let a = c.args in
     let few = few_counted a.s.now a.from _ c.decode-decoded.ensures.decoded in
     let short = c.requires.s_len_bound in
-    let long : most_steps ≡ length c.decode-decoded.new.1.1.0 = search rules in
+    let long : most_steps ≡ length c.decode-decoded.new.kinds = search rules in
     sym (length-take-le _ _ (omega arith))
 
 pub slice_bounds-doors-end : goal.slice_bounds-doors-end
@@ -44,7 +44,7 @@ slice_bounds-print_run-end-2 c =
     let a = c.args in
     let few = few_counted a.s.now a.from _ c.decode-decoded.ensures.decoded in
     let short = c.requires.s_len_bound in
-    let long : most_steps ≡ length c.decode-decoded.new.1.1.1.0 = search rules in
+    let long : most_steps ≡ length c.decode-decoded.new.doors = search rules in
     sym (length-take-le _ _ (omega arith))
 
 pub slice_bounds-persons-end : goal.slice_bounds-persons-end
@@ -59,7 +59,7 @@ slice_bounds-print_run-end-3 c =
     let a = c.args in
     let few = few_counted a.s.now a.from _ c.decode-decoded.ensures.decoded in
     let short = c.requires.s_len_bound in
-    let long : most_steps ≡ length c.decode-decoded.new.1.1.1.1.0 = search rules in
+    let long : most_steps ≡ length c.decode-decoded.new.persons = search rules in
     sym (length-take-le _ _ (omega arith))
 
 pub print_run-requires : goal.print_run-requires
@@ -71,15 +71,15 @@ print_run-requires c =
     let kinds = c.blank_bytes-kinds in
     let doors = c.blank_numbers-doors in
     let persons = c.blank_numbers-persons in
-    let counted = few_counted a.s.now a.from _ d.ensures.0 in
-    let few : d.result.count ≤ most_steps = omega (arith, pre.1) in
-    let lk : most_steps ≡ length d.new.1.1.0 = search rules in
-    let ld : most_steps ≡ length d.new.1.1.1.0 = search rules in
-    let lp : most_steps ≡ length d.new.1.1.1.1.0 = search rules in
-    let k = length-take-le d.result.count d.new.1.1.0 (omega arith) in
-    let x = length-take-le d.result.count d.new.1.1.1.0 (omega arith) in
-    let y = length-take-le d.result.count d.new.1.1.1.1.0 (omega arith) in
-    (pre.0, (omega (arith, k, few), x ∙ sym k, y ∙ sym k))
+    let counted = few_counted a.s.now a.from _ d.ensures.decoded in
+    let few : d.result.count ≤ most_steps = omega (arith, pre.s_len_bound) in
+    let lk : most_steps ≡ length d.new.kinds = search rules in
+    let ld : most_steps ≡ length d.new.doors = search rules in
+    let lp : most_steps ≡ length d.new.persons = search rules in
+    let k = length-take-le d.result.count d.new.kinds (omega arith) in
+    let x = length-take-le d.result.count d.new.doors (omega arith) in
+    let y = length-take-le d.result.count d.new.persons (omega arith) in
+    record { fresh_value = pre.fresh_value; kinds_len_bound = (omega (arith, k, few), x ∙ sym k, y ∙ sym k) }
 
 pub returns : goal.returns
 returns c =
@@ -90,8 +90,8 @@ returns c =
     let kinds = c.blank_bytes-kinds in
     let doors = c.blank_numbers-doors in
     let persons = c.blank_numbers-persons in
-    let counted = few_counted a.s.now a.from _ d.ensures.0 in
-    let few : d.result.count ≤ most_steps = omega (arith, pre.1) in
-    let room = room_most (length a.s.now) _ _ _ pre.1 kinds.ensures doors.ensures persons.ensures in
-    let lists = decoded_are steps _ room d.ensures.0 kinds.result doors.result persons.result (omega (arith, few, kinds.ensures)) (omega (arith, few, doors.ensures)) (omega (arith, few, persons.ensures)) d.ensures.1.0 d.ensures.1.1.0 d.ensures.1.1.1 in
+    let counted = few_counted a.s.now a.from _ d.ensures.decoded in
+    let few : d.result.count ≤ most_steps = omega (arith, pre.s_len_bound) in
+    let room = room_most (length a.s.now) _ _ _ pre.s_len_bound kinds.ensures doors.ensures persons.ensures in
+    let lists = decoded_are steps _ room d.ensures.decoded kinds.result doors.result persons.result (omega (arith, few, kinds.ensures)) (omega (arith, few, doors.ensures)) (omega (arith, few, persons.ensures)) d.ensures.kinds d.ensures.doors d.ensures.persons in
     text_is _ _ a.out.now (ap (λ (rows : List StepRow). stream_of (line_events_in a.fresh rows)) (decoded_rows lists)) c.print_run.ensures
