@@ -13,7 +13,7 @@ from names import lost_names, shared_names
 
 FUNCTION = re.compile(r"^\s*(?:#\[[^\]]*\]\s*)?pub\s+(?:extern\s+\"C\"\s+)?fn\s+([a-z_0-9]+)", re.M)
 BODY = re.compile(r"^\s*[{}]$", re.M)
-TOKEN = re.compile(r"[^\s(){}\[\];,⌜⌝]+")
+TOKEN = re.compile(r"[^\s(){}\[\];,]+")
 OWNER = re.compile(r"^impl(?:<[^>]*>)?\s+([A-Za-z_0-9]+)", re.M)
 
 # The parts of demand 1 and of the uniqueness of answers (`SheetAnswers`, `SheetUnique`, ..) in which a crate's functions have their fields.
@@ -198,16 +198,18 @@ def cited(text, bodies):
 def promised_by(head, text):
     """The definitions and the cases of an enum that the `ensures` of a function cite."""
     known = set()
-    for module, names in re.findall(r"^ghost use ((?:Rattle·|lib\.)\S+?)\.\{([^}]*)\};", text, re.M):
-        if ".declared." not in module:
+    for module, names in re.findall(r"^ghost use (Rattle\.\S+?)\.\{([^}]*)\};", text, re.M):
+        if ".declared." not in module and module != "Rattle.std.specs.Prelude":
             known |= {name.strip() for name in names.split(",")}
     parameters = set(re.findall(r"(\w+):", head.split("ensures")[0]))
-    promise = " ".join(re.findall(r"ensures[^⌜]*⌜(.*?)⌝", head, re.S))
+    promise = " ".join(re.findall(r"ensures \w* ?\{(.*?)\}$", head, re.S | re.M))
     return set(TOKEN.findall(promise)) & known - parameters | set(re.findall(r"\b[A-Z]\w*\.([A-Z]\w*)", promise))
 
 
-def field_name(name):
-    return re.sub(r"(?<=[a-z])(?=[A-Z])", "-", name).replace("::", "-").replace("_", "-").lower()
+def field_names(name):
+    """What the field of a function may be called: as the function, with `_lem` behind it where a definition is called so."""
+    field = re.sub(r"(?<=[a-z])(?=[A-Z])", "_", name).replace("::", "_").lower()
+    return [field, field + "_lem"]
 
 
 def check_fields(listed):
@@ -228,7 +230,7 @@ def check_fields(listed):
                 continue
             for kind in ("Answers", "Unique"):
                 parts = [fields.get(part + kind, {}) for part in PARTS.get(crate, [])]
-                names = [field_name(name), field_name(name.split("::")[-1])]
+                names = field_names(name) + field_names(name.split("::")[-1])
                 found = [part[field] for field in names for part in parts if field in part]
                 if not found:
                     faults.append(f"no crate that says the demands has a field for {crate}::{name} ({kind})")

@@ -11,7 +11,7 @@ import re
 import sys
 
 PAGE = os.path.join("docs", "PROMISES.md")
-WORD = re.compile(r"[^\s(){}\[\];,.⌜⌝]+")
+WORD = re.compile(r"[^\s(){}\[\];,.]+")
 HEADING = "## The wrong answers that are tried"
 KINDS = ("code", "promise", "definition", "theorem")
 

@@ -35,10 +35,11 @@ ANY = {"NAME", "FILE", "FOLDER", "FUNCTION", "PROGRAM", "NNNN"}
 PROGRAMS = {"rt", "python3", "ssconvert", "sed", "head"}
 # What isn't ours, by where it stands.
 ELSEWHERE = {
-    "": {"target/"},  # what rt makes: it is not there on a clean clone
+    "": {"out/"},  # what rt makes: it is not there on a clean clone
     "crates/machines": {"init"},  # an event of 001, which has no name here
-    "docs/CHAPTER.md": {"inv4_1"},  # as 001 writes it
-    "docs/DECISIONS.md": {"serving", "files", "saying", "line_of", "No", "Idle"},  # what was called so before; the ending of a name
+    "crates/chapter": {"init"},
+    "docs/CHAPTER.md": {"init"},
+    "docs/DECISIONS.md": {"serving", "files", "saying", "line_of", "No", "Idle", "init"},  # what was called so before; the ending of a name
     "docs/SHEETS.md": {"writer", "newline"},  # Python's
     "docs/changes/C-14.md": {"lacks_door", "lets_in", "zero_at", "sole_grant"},  # private functions that went with it
 }
@@ -82,7 +83,7 @@ def sources():
     found = []
     for crate in crates():
         for folder, folders, names in os.walk(os.path.join("crates", crate)):
-            folders[:] = sorted(set(folders) - {"data"})
+            folders[:] = sorted(set(folders) - {"data", "out"})
             for name in sorted(names):
                 mark = {".rt": "//", ".antt": "--", ".edit": "#"}.get(os.path.splitext(name)[1])
                 if mark:
@@ -255,10 +256,16 @@ def places():
     """The public names, each with the files that define it. A method has its type's name in front, and isn't looked at."""
     found = {}
     for path, _, mark in sources():
-        if mark != "#":
+        # the answers to a function's goals have the names of the goals
+        if mark != "#" and not re.search(r"/proofs/.+/", path):
             for name in defined_in(read(path)) if mark == "--" else ITEM.findall(read(path)):
                 found.setdefault(name, []).append(path)
     return found
+
+
+# A function and a definition of another crate that had different spellings before all names were written alike. What the function answers
+# is said by a definition of another name; the two never stand in one file.
+ALIKE = {"read_rows", "row_at", "site_line_of", "steps_line_of", "way_out"}
 
 
 def meaning(name, path):
@@ -267,14 +274,13 @@ def meaning(name, path):
     # each of the five machines has its events, guards and so on
     if re.fullmatch(r"crates/machines/specs/M[0-4]\.antt", path):
         return "of each machine"
-    # that a function meets its contract
-    if name.endswith("-spec") and path.endswith("/Proof.antt"):
-        return "of each function"
     # `demands` hands a theorem of a crate below on under its name
     if path.startswith("crates/demands/proofs/") and re.search(rf"^{escaped} .*= \w+\.{escaped}( |$)", read(path), re.M):
         return None
-    # a function that answers what the definition of its name says
-    if path.endswith(".rt") and re.search(rf"^pub fn {escaped}\b.*\n +ensures .*≡ {escaped} ", read(path), re.M):
+    if path.endswith(".rt") and name in ALIKE:
+        return None
+    # a function whose promise says what it answers or writes by the definition of its name
+    if path.endswith(".rt") and re.search(rf"^pub fn {escaped}\b[^{{;]*\n +ensures [^\n]*(?:≡ |\(){escaped} ", read(path), re.M):
         return None
     return path
 

@@ -15,7 +15,6 @@ use Rattle.grammar.specs.declared.count.RowsCounted.TheVariants.{All, UpTo}
 use Rattle.grammar.specs.Grammar.{cr, lf, Row, row_text, RowAt, ended, last, Sheet, no_row, row, BeginsWith, here, on}
 use Rattle.grammar.specs.Cut.{empty_at, no_cells, row_from, cut_row}
 use Rattle.grammar.specs.Rows.{Rows, on_row, rows_from, count_from, count_rows}
-use Rattle.grammar.specs.Rows
 use Rattle.grammar.specs.Meaning.{SheetOf, BrokenRow, BrokenAfter, FirstFault}
 use Rattle.grammar.proofs.Found.{in_fresh, row_crlf, row_sheet, RowFound, row_found}
 use Rattle.grammar.proofs.Unique.{row_unique, no_row_at, rows_unique}

@@ -49,7 +49,7 @@ use Rattle.phases.specs.Kinds.{StepRow, allows, names_person}
 use Rattle.phases.specs.Answers.{reason_busy}
 use Rattle.door_does.specs.declared.Does.{Does}
 use Rattle.door_does.specs.declared.Does.TheVariants.{Stays, Turns, Moves}
-use Rattle.door_does.specs.Does.{burns, effect}
+use Rattle.door_does.specs.Does.{effect}
 use Rattle.deeds.specs.Deeds.{exist_among}
 use Rattle.record.specs.Steps.{reason_for, Admitted, First, held_for, HeldDoor, no_door, act, refused, exist, doing, sound_step, step_of}
 use Rattle.record.specs.Run.{row_of, last_of}

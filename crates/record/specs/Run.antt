@@ -3,7 +3,6 @@ use Rattle.std.specs.Prelude.{ℕ, Bool, cond, List, [], ◌∷◌, map, length,
 use Rattle.std.proofs.lemmas.List.Edits.{sets}
 use Rattle.tables.specs.Tables.{and_also}
 use Rattle.record.specs.declared.record.Record.{Record}
-use Rattle.phases.specs.declared.table.Kind.{Kind}
 use Rattle.record.specs.declared.steps.Step.{Step}
 use Rattle.phases.specs.declared.answer.Answer.TheVariants.{Done, TooShort, Unsound}
 use Rattle.record.specs.declared.series.Ran.{Ran}

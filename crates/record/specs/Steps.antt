@@ -1,6 +1,6 @@
 -- What each step does (01, "Steps"): `step_of` is the whole of it.
-use Rattle.std.specs.Prelude.{ℕ, ◌≡◌, Bool, true, false, not, cond, get_or, ltb}
-use Rattle.tables.specs.Tables.{may_be, or_else, and_also}
+use Rattle.std.specs.Prelude.{ℕ, ◌≡◌, Bool, true, false, cond, get_or}
+use Rattle.tables.specs.Tables.{may_be}
 use Rattle.record.specs.declared.record.Record.{Record}
 use Rattle.phases.specs.declared.table.Kind.{Kind}
 use Rattle.phases.specs.declared.answer.Answer.{Answer}
@@ -13,7 +13,7 @@ use Rattle.door_does.specs.declared.Does.{Does}
 use Rattle.door_does.specs.declared.Does.TheVariants.{Stays, Turns, Moves}
 use Rattle.door_does.specs.Does.{effect}
 use Rattle.record.specs.Doors.{plan_of, door_of, put_door, put_at}
-use Rattle.phases.specs.Kinds.{allows, names_person}
+use Rattle.phases.specs.Kinds.{allows}
 use Rattle.granting.specs.Grants.{GrantAt}
 use Rattle.granting.specs.Reasons.{first_reason, held_with}
 use Rattle.record.specs.SoundTest.{sound_b}

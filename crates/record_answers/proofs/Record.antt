@@ -354,6 +354,6 @@ of_record =
       ack = λ r d. step_tells r Ack d 0;
       run = run_tells;
       place_of_lem = place_tells;
-      granted_to_holder = grant_tells;
+      granted_to_lem = grant_tells;
       way_out_lem = way_out_tells;
     }

@@ -35,6 +35,6 @@ record_unique =
       ack = λ r d. alone;
       run = λ r steps doors persons answers phases reasons held. beside_four;
       place_of_lem = λ r p x y a b. a.0 ∙ sym b.0;
-      granted_to_holder = λ r p x y a b. a.0 ∙ sym b.0;
+      granted_to_lem = λ r p x y a b. a.0 ∙ sym b.0;
       way_out_lem = λ r l list x y a b. beside x y (a.0, a.3) (b.0, b.3);
     }

@@ -176,5 +176,5 @@ pub record RecordAnswers : Type 0 where
   pub ack : (r : Record) (d : ℕ) → StepTells r Ack d 0 (step_of r Ack d 0)
   pub run : (r : Record) (steps doors persons answers phases reasons held : List ℕ) → RunTells r steps doors persons answers phases reasons held
   pub place_of_lem : (r : Record) (p : ℕ) → PlaceTells r p
-  pub granted_to_holder : (r : Record) (p : ℕ) → GrantTells r p
+  pub granted_to_lem : (r : Record) (p : ℕ) → GrantTells r p
   pub way_out_lem : (r : Record) (l : ℕ) (list : List ℕ) → WayOutTells r l list

@@ -73,7 +73,7 @@ pub record RecordUnique : Type 0 where
       → Unique
       (λ (x : PlaceAnswer).
       (x ≡ place_of r p) × (place_no x ≡ asked_no r (ltb p r.people)) × (place_told x ≡ unless_refused (place_no x) (get_or r.place p 0) 0))
-  pub granted_to_holder : (r : Record) (p : ℕ)
+  pub granted_to_lem : (r : Record) (p : ℕ)
       → Unique
       (λ (x : GrantAnswer).
       (x ≡ granted_to r p)

@@ -10,7 +10,7 @@ use lib.Dec.{leb}
 use borrow.Author.Tests.{leb-true}
 use Rattle.tables.specs.Tables.{and_also}
 use Rattle.tables.proofs.Laws.{and_left, and_right}
-use Rattle.text.specs.Text.{digits, decimal}
+use Rattle.text.specs.Text.{decimal}
 use Rattle.syslog.specs.declared.Msgid.{Msgid}
 use Rattle.syslog.specs.declared.Msgid.TheVariants.{Grant, Deny, Pass, Lapse}
 use Rattle.syslog.specs.declared.LineEvent.{LineEvent}

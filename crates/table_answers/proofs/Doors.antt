@@ -1,6 +1,6 @@
 -- Demand 1 of phases and of one door; what it says is in `specs/Answers.antt`. Assumes nothing.
 use Prim.Native.Nat.{ℕ, ◌+◌, ◌-◌, ◌≤◌, ◌<◌}
-use mathlib.Core.Path.{◌≡◌, refl, sym, ap, subst}
+use mathlib.Core.Path.{◌≡◌, refl, sym, ap}
 use mathlib.Core.Bool.{false, cond, false≢true}
 use mathlib.Core.List.{[], ◌∷◌}
 use mathlib.Core.Logic.{◌⊎◌, inl, inr, ⊎_elim}
@@ -16,7 +16,7 @@ use Rattle.phases.specs.declared.table.Kind.TheVariants.{Card, Decide, Green, Re
 use Rattle.phases.specs.declared.answer.Answer.{Answer}
 use Rattle.phases.specs.declared.answer.Answer.TheVariants.{Done, NoSuch, NotAllowed, TooShort, Unsound}
 use Rattle.phases.specs.Phase.{read, granted, green, walked, expired, denied, red, dimmed, closed, green_span, red_span, keeps, grants, lit, least_count, most_count}
-use Rattle.door.specs.Door.{door, free_door, door_in}
+use Rattle.door.specs.Door.{door, free_door}
 use Rattle.door_fits.specs.Fits.{fields_fit}
 use Rattle.door_does.specs.declared.Does.TheVariants.{Stays, Turns, Moves}
 use Rattle.phases.specs.Answers.{answer_no}

@@ -1,6 +1,5 @@
 -- `asked_in` meets its contract: what the row says, or no step. Assumes nothing.
 use mathlib.Core.Path.{sym, ◌∙◌}
-use borrow.Author.Rules.{rules}
 use Rattle.attend.proofs.asked_in.Goals as goal
 
 pub returns-in-Step : goal.returns-in-Step

@@ -1,9 +1,6 @@
 -- `put_shown` meets its contract: a row of bad form asks for no step, and all others for one. Assumes nothing.
-use mathlib.Core.List.{[], ◌∷◌}
-use types.Run.{miss}
 use Rattle.steps_sheet.proofs.Rows.{others_are_steps}
 use Rattle.attend.specs.Attend.{shown_row}
-use borrow.Author.Rules.{rules}
 use Rattle.attend.proofs.put_shown.Goals as goal
 
 pub returns-in-Unknown : goal.returns-in-Unknown

@@ -2,7 +2,6 @@
 use mathlib.Core.Path.{sym, ◌∙◌}
 use borrow.Author.Tests.{eq-eqb, ne_eqb}
 use Rattle.attend.specs.Attend.{row_says}
-use borrow.Author.Rules.{rules}
 use Rattle.attend.proofs.row_says.Goals as goal
 
 pub returns-then-next-row : goal.returns-then-next-row

@@ -1,10 +1,8 @@
 -- `exist` meets its contract: each return is decided by the tests before it. Assumes nothing.
-use mathlib.Core.List.{[], ◌∷◌}
 use borrow.Author.Tests.{lt-ltb, le-ltb}
 use Rattle.tables.specs.Tables.{or_else, and_also}
 use Rattle.deeds.specs.Deeds.{exist_among}
 use Rattle.phases.proofs.Steps.{others_name_none}
-use borrow.Author.Rules.{rules}
 use Rattle.deeds.proofs.exist.Goals as goal
 
 pub returns-then-doors-door : goal.returns-then-doors-door

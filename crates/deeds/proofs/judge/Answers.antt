@@ -2,7 +2,6 @@
 use mathlib.Core.Path.{◌∙◌}
 use native.Mathlib.Omega.{arith}
 use Rattle.deeds.proofs.Judged.{card_person, judged_crowded, judged_none, judged_barred, judged_done}
-use borrow.Author.Rules.{rules}
 use mathlib.Core.Bool.{not}
 use mathlib.Core.Path.{ap}
 use Rattle.deeds.proofs.judge.Goals as goal

@@ -1,8 +1,7 @@
 -- `fits` meets its contract: each return is decided by the tests before it. Assumes nothing.
-use borrow.Author.Tests.{le-leb, lt-leb, not-true, not-false}
+use borrow.Author.Tests.{le-leb, lt-leb}
 use Rattle.tables.specs.Tables.{and_also}
 use Rattle.door_fits.specs.Fits.{fields_fit}
-use borrow.Author.Rules.{rules}
 use Rattle.door_fits.proofs.fits.Goals as goal
 
 pub returns-then-phase-gt-CLOSED : goal.returns-then-phase-gt-CLOSED

@@ -1,6 +1,5 @@
 -- `holder_fits` meets its contract: each return is decided by the test before it. Assumes nothing.
 use Rattle.door_fits.specs.Fits.{holder_fits}
-use borrow.Author.Rules.{rules}
 use Rattle.door_fits.proofs.holder_fits.Goals as goal
 
 pub returns-then-keeps : goal.returns-then-keeps

@@ -1,7 +1,6 @@
 -- `first_reason` meets its contract: the tests of `first_reason`, one after the other. Assumes nothing.
-use borrow.Author.Tests.{eq-eqb, ne_eqb, not-true, not-false}
+use borrow.Author.Tests.{eq-eqb, ne_eqb}
 use Rattle.granting.specs.Reasons.{first_reason}
-use borrow.Author.Rules.{rules}
 use Rattle.granting.proofs.first_reason.Goals as goal
 
 pub returns-then-byte_at : goal.returns-then-byte_at

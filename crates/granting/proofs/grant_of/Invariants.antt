@@ -1,8 +1,8 @@
 -- `grant_of` meets its contract: the loop tests every door before it goes on, and answers the first that holds a grant. Assumes nothing.
 use Prim.Native.Nat.{◌-◌}
 use mathlib.Core.Bool.{false}
-use Rattle.tables.proofs.Scans.{Scan, scans}
-use Rattle.granting.specs.Grants.{grants_to, grant_of}
+use Rattle.tables.proofs.Scans.{Scan}
+use Rattle.granting.specs.Grants.{grants_to}
 use Rattle.granting.proofs.grant_of.Given as goal
 
 abbrev pub invariant-loop-door : goal.invariant-loop-door

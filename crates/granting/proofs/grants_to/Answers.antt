@@ -1,8 +1,6 @@
 -- `grants_to` meets its contract: each return is decided by the tests before it. Assumes nothing.
-use borrow.Author.Tests.{not-true, not-false}
 use Rattle.tables.specs.Tables.{and_also}
 use Rattle.granting.specs.Grants.{grants_to}
-use borrow.Author.Rules.{rules}
 use Rattle.granting.proofs.grants_to.Goals as goal
 
 pub returns-then-not-grants : goal.returns-then-not-grants

@@ -1,6 +1,5 @@
 -- `has_grant` meets its contract: some door is found, or none. Assumes nothing.
 use Rattle.granting.specs.Grants.{has_grant}
-use borrow.Author.Rules.{rules}
 use Rattle.granting.proofs.has_grant.Goals as goal
 
 pub returns-in-At : goal.returns-in-At

@@ -1,7 +1,6 @@
--- `held_with_lem` meets its contract: the door of the grant is told with reason 3 alone. Assumes nothing.
+-- `held_with` meets its contract: the door of the grant is told with reason 3 alone. Assumes nothing.
 use borrow.Author.Tests.{eq-eqb, ne_eqb}
 use Rattle.granting.specs.Reasons.{held_with}
-use borrow.Author.Rules.{rules}
 use Rattle.granting.proofs.held_with.Goals as goal
 
 pub returns-then-reason-ne-HAS_GRANT : goal.returns-then-reason-ne-HAS_GRANT

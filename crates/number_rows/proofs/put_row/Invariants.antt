@@ -1,11 +1,8 @@
 -- `put_row` meets its contract: each turn writes a number and a comma, and behind the loop stand the last number and CRLF.
 -- Assumes nothing.
 use Prim.Native.Nat.{◌-◌}
-use native.Mathlib.Omega.{arith}
-use borrow.Author.Rules.{rules}
 use lib.ListN.{length}
-use Rattle.text.proofs.Writing.{begun}
-use Rattle.number_rows.proofs.Loop.{InRow, numbers_more, row_end_lem}
+use Rattle.number_rows.proofs.Loop.{InRow}
 use Rattle.number_rows.proofs.put_row.Given as goal
 
 abbrev pub invariant-loop-i : goal.invariant-loop-i

@@ -3,7 +3,6 @@ use mathlib.Core.Path.{ap, ◌∙◌}
 use Rattle.record.specs.Questions.{grant_found, granted_to}
 use Rattle.tables.proofs.Cases.{picks}
 use Rattle.record.proofs.Asked.{grant_as_said}
-use borrow.Author.Rules.{rules}
 use Rattle.questions.proofs.granted_to.Goals as goal
 
 pub returns-then-not-is_sound : goal.returns-then-not-is_sound

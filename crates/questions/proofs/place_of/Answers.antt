@@ -4,7 +4,6 @@ use Rattle.asked_place.specs.declared.PlaceAnswer.TheVariants.{At}
 use Rattle.record.specs.Questions.{place_of}
 use Rattle.tables.proofs.Cases.{picks}
 use Rattle.record.proofs.Asked.{place_as_said}
-use borrow.Author.Rules.{rules}
 use Rattle.questions.proofs.place_of.Goals as goal
 
 pub returns-then-not-is_sound : goal.returns-then-not-is_sound

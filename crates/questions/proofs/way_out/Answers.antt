@@ -1,9 +1,8 @@
--- `way_out_lem` meets its contract: the tests of `way_answer_of`, one after the other. Assumes nothing.
+-- `way_out` meets its contract: the tests of `way_answer_of`, one after the other. Assumes nothing.
 use mathlib.Core.Path.{ap, ◌∙◌}
 use Rattle.record.specs.Questions.{way_found, way_answer_of, way_written}
 use Rattle.tables.proofs.Cases.{picks}
 use Rattle.record.proofs.Asked.{way_as_said}
-use borrow.Author.Rules.{rules}
 use Rattle.questions.proofs.way_out.Goals as goal
 
 pub returns-then-not-is_sound : goal.returns-then-not-is_sound

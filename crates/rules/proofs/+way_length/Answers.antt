@@ -1,6 +1,5 @@
 -- `way_length` meets its contract. The measure is the count of locations still unvisited, which falls at each call. Assumes nothing.
-use Prim.Native.Nat.{ℕ, ◌-◌, ◌<◌}
-use borrow.Author.Rules.{rules}
+use Prim.Native.Nat.{◌-◌}
 use native.Mathlib.Omega.{arith}
 use Rattle.tables.proofs.Ways as ways
 use Rattle.rules.proofs.+way_length.Goals as goal

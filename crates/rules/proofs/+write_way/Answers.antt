@@ -1,6 +1,4 @@
 -- `write_way` meets its contract. The measure is the count of locations still unvisited, which falls at each call. Assumes nothing.
-use Prim.Native.Nat.{ℕ, ◌<◌}
-use borrow.Author.Rules.{rules}
 use native.Mathlib.Omega.{arith}
 use mathlib.Core.Path.{◌∙◌}
 use lib.ListN.{length-set}

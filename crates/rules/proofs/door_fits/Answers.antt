@@ -1,5 +1,4 @@
 -- `door_fits` meets its contract: each return is decided by the tests before it. Assumes nothing.
-use borrow.Author.Rules.{rules}
 use borrow.Author.Tests.{lt-ltb, le-ltb}
 use Rattle.tables.specs.Tables.{and_also}
 use Rattle.tables.specs.Tests.{door_in_range}

@@ -1,8 +1,5 @@
 -- `doors_fit` meets its contract: the loop tests every number before it goes on, and answers whether every door fits. Assumes nothing.
-use Prim.Native.Nat.{◌-◌}
-use mathlib.Core.Bool.{true}
-use Rattle.tables.specs.Tests.{door_in_range}
-use Rattle.tables.proofs.Scans.{Scan, scans}
+use Rattle.tables.proofs.Scans.{scans}
 use Rattle.rules.proofs.doors_fit.Goals as goal
 
 pub loop-door-init : goal.loop-door-init

@@ -2,7 +2,7 @@
 use Prim.Native.Nat.{◌-◌}
 use mathlib.Core.Bool.{true}
 use Rattle.tables.specs.Tests.{door_in_range}
-use Rattle.tables.proofs.Scans.{Scan, scans}
+use Rattle.tables.proofs.Scans.{Scan}
 use Rattle.rules.proofs.doors_fit.Given as goal
 
 abbrev pub invariant-loop-door : goal.invariant-loop-door

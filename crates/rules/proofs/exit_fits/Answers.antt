@@ -1,5 +1,4 @@
 -- `exit_fits` meets its contract. Assumes nothing.
-use borrow.Author.Rules.{rules}
 use Rattle.tables.specs.Tests.{exit_in_range}
 use Rattle.rules.proofs.exit_fits.Goals as goal
 

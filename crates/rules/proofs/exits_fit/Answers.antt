@@ -1,8 +1,5 @@
 -- `exits_fit` meets its contract: the loop tests every number before it goes on, and answers whether every exit fits. Assumes nothing.
-use Prim.Native.Nat.{◌-◌}
-use mathlib.Core.Bool.{true}
-use Rattle.tables.specs.Tests.{exit_in_range}
-use Rattle.tables.proofs.Scans.{Scan, scans}
+use Rattle.tables.proofs.Scans.{scans}
 use Rattle.rules.proofs.exits_fit.Goals as goal
 
 pub loop-location-init : goal.loop-location-init

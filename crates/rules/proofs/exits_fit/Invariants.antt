@@ -2,7 +2,7 @@
 use Prim.Native.Nat.{◌-◌}
 use mathlib.Core.Bool.{true}
 use Rattle.tables.specs.Tests.{exit_in_range}
-use Rattle.tables.proofs.Scans.{Scan, scans}
+use Rattle.tables.proofs.Scans.{Scan}
 use Rattle.rules.proofs.exits_fit.Given as goal
 
 abbrev pub invariant-loop-location : goal.invariant-loop-location

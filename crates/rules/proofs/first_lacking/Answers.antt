@@ -1,8 +1,5 @@
 -- `first_lacking` meets its contract: the loop tests every number before it goes on, and answers the least location that breaks rule 9 for this person. Assumes nothing.
-use Prim.Native.Nat.{◌-◌}
-use mathlib.Core.Bool.{false}
-use Rattle.tables.specs.Tests.{lacks_right}
-use Rattle.tables.proofs.Scans.{Scan, scans}
+use Rattle.tables.proofs.Scans.{scans}
 use Rattle.rules.proofs.first_lacking.Goals as goal
 
 pub loop-location-init : goal.loop-location-init

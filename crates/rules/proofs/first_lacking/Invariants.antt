@@ -2,7 +2,7 @@
 use Prim.Native.Nat.{◌-◌}
 use mathlib.Core.Bool.{false}
 use Rattle.tables.specs.Tests.{lacks_right}
-use Rattle.tables.proofs.Scans.{Scan, scans}
+use Rattle.tables.proofs.Scans.{Scan}
 use Rattle.rules.proofs.first_lacking.Given as goal
 
 abbrev pub invariant-loop-location : goal.invariant-loop-location

@@ -1,7 +1,6 @@
 -- `first_no_door` meets its contract: a location lacks a door to its exit exactly when it isn't marked. Assumes nothing.
 use mathlib.Core.Path.{◌∙◌}
 use mathlib.Core.Bool.{not}
-use borrow.Author.Rules.{rules}
 use lib.Dec.{ltb}
 use Rattle.tables.specs.Tables.{and_also}
 use Rattle.tables.specs.Below.{least_below}

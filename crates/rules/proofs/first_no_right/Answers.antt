@@ -1,5 +1,4 @@
 -- `first_no_right` meets its contract: it asks for the person, and then for the location of that person. Assumes nothing.
-use borrow.Author.Rules.{rules}
 use Rattle.tables.specs.Below.{least_pair, location_of, with_location}
 use Rattle.tables.specs.Tests.{first_no_right}
 use Rattle.rules.proofs.first_no_right.Goals as goal

@@ -1,6 +1,5 @@
 -- `first_shut_out` meets its contract: no door lets a person in exactly when no marked location is a first one of theirs. Assumes nothing.
 use mathlib.Core.Path.{◌∙◌}
-use borrow.Author.Rules.{rules}
 use Rattle.tables.specs.Below.{least_below}
 use Rattle.tables.specs.Tests.{first_shut_out}
 use Rattle.rules.proofs.Marks.{no_first_same}

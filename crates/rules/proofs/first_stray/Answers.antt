@@ -1,8 +1,6 @@
 -- `first_stray` meets its contract: the loop tests every number before it goes on, and answers the least location from which exits never reach 0. Assumes nothing.
-use Prim.Native.Nat.{◌-◌}
-use mathlib.Core.Bool.{false}
-use Rattle.tables.specs.Tests.{strays, first_stray}
-use Rattle.tables.proofs.Scans.{Scan, scans}
+use Rattle.tables.specs.Tests.{first_stray}
+use Rattle.tables.proofs.Scans.{scans}
 use Rattle.rules.proofs.first_stray.Goals as goal
 
 pub loop-location-init : goal.loop-location-init

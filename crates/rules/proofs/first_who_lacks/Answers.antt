@@ -1,9 +1,5 @@
 -- `first_who_lacks` meets its contract: the loop tests every number before it goes on, and answers the least person who breaks rule 9. Assumes nothing.
-use Prim.Native.Nat.{ℕ, ◌-◌}
-use mathlib.Core.Bool.{false}
-use Rattle.tables.specs.Below.{some_below}
-use Rattle.tables.specs.Tests.{lacks_right}
-use Rattle.tables.proofs.Scans.{Scan, scans}
+use Rattle.tables.proofs.Scans.{scans}
 use Rattle.rules.proofs.first_who_lacks.Goals as goal
 
 pub loop-person-init : goal.loop-person-init

@@ -3,7 +3,7 @@ use Prim.Native.Nat.{ℕ, ◌-◌}
 use mathlib.Core.Bool.{false}
 use Rattle.tables.specs.Below.{some_below}
 use Rattle.tables.specs.Tests.{lacks_right}
-use Rattle.tables.proofs.Scans.{Scan, scans}
+use Rattle.tables.proofs.Scans.{Scan}
 use Rattle.rules.proofs.first_who_lacks.Given as goal
 
 abbrev pub invariant-loop-person : goal.invariant-loop-person

@@ -1,8 +1,5 @@
 -- `first_without` meets its contract: the loop tests every person before it goes on, and answers the least who has no first location. Assumes nothing.
-use Prim.Native.Nat.{◌-◌}
-use mathlib.Core.Bool.{false}
-use Rattle.rules.specs.Marks.{has_no_first}
-use Rattle.tables.proofs.Scans.{Scan, scans}
+use Rattle.tables.proofs.Scans.{scans}
 use Rattle.rules.proofs.first_without.Goals as goal
 
 pub loop-person-init : goal.loop-person-init

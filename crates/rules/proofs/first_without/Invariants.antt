@@ -2,7 +2,7 @@
 use Prim.Native.Nat.{◌-◌}
 use mathlib.Core.Bool.{false}
 use Rattle.rules.specs.Marks.{has_no_first}
-use Rattle.tables.proofs.Scans.{Scan, scans}
+use Rattle.tables.proofs.Scans.{Scan}
 use Rattle.rules.proofs.first_without.Given as goal
 
 abbrev pub invariant-loop-person : goal.invariant-loop-person

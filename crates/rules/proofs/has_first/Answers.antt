@@ -1,9 +1,5 @@
 -- `has_first` meets its contract: the loop tests every location before it goes on, and answers whether some is a first one. Assumes nothing.
-use Prim.Native.Nat.{◌-◌}
-use mathlib.Core.Bool.{false}
-use Rattle.tables.specs.Tables.{most_locations}
-use Rattle.tables.proofs.Scans.{Scan, scans}
-use Rattle.rules.specs.Marks.{is_first}
+use Rattle.tables.proofs.Scans.{scans}
 use Rattle.rules.proofs.has_first.Goals as goal
 
 pub loop-location-init : goal.loop-location-init

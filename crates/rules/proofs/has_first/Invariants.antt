@@ -2,7 +2,7 @@
 use Prim.Native.Nat.{◌-◌}
 use mathlib.Core.Bool.{false}
 use Rattle.tables.specs.Tables.{most_locations}
-use Rattle.tables.proofs.Scans.{Scan, scans}
+use Rattle.tables.proofs.Scans.{Scan}
 use Rattle.rules.specs.Marks.{is_first}
 use Rattle.rules.proofs.has_first.Given as goal
 

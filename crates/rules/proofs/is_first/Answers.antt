@@ -1,5 +1,4 @@
 -- `is_first` meets its contract: it asks one test after the other. Assumes nothing.
-use borrow.Author.Rules.{rules}
 use Rattle.tables.proofs.Cases.{test_chain}
 use Rattle.rules.specs.Marks.{is_first}
 use Rattle.rules.proofs.is_first.Goals as goal

@@ -1,6 +1,5 @@
 -- `lacks_exit` meets its contract: past the end of the marks no exit is given. Assumes nothing.
 use mathlib.Core.Bool.{false}
-use borrow.Author.Rules.{rules}
 use borrow.Author.Tests.{lt-ltb}
 use lib.ListN.{get_or-eq_default}
 use native.Mathlib.Nat.{pos_of_ne-zero}

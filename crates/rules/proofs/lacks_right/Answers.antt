@@ -1,5 +1,4 @@
 -- `lacks_right` meets its contract: it asks one test after the other. Assumes nothing.
-use borrow.Author.Rules.{rules}
 use Rattle.tables.specs.Tests.{lacks_right}
 use Rattle.tables.proofs.Chain.{chain}
 use Rattle.rules.proofs.lacks_right.Goals as goal

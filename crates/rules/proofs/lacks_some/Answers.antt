@@ -1,8 +1,5 @@
 -- `lacks_some` meets its contract: the loop tests every number before it goes on, and answers whether some location breaks rule 9 for this person. Assumes nothing.
-use Prim.Native.Nat.{◌-◌}
-use mathlib.Core.Bool.{false}
-use Rattle.tables.specs.Tests.{lacks_right}
-use Rattle.tables.proofs.Scans.{Scan, scans}
+use Rattle.tables.proofs.Scans.{scans}
 use Rattle.rules.proofs.lacks_some.Goals as goal
 
 pub loop-location-init : goal.loop-location-init

@@ -1,5 +1,4 @@
 -- `lawful` meets its contract: it asks one rule after the other. Assumes nothing.
-use borrow.Author.Rules.{rules}
 use Rattle.tables.specs.Tests.{lawful_b}
 use Rattle.tables.proofs.Chain.{chain}
 use Rattle.rules.proofs.lawful.Goals as goal

@@ -1,8 +1,6 @@
 -- `mark_first` meets its contract: each turn goes past a door, and marks the location that the door names. Assumes nothing.
-use Prim.Native.Nat.{◌-◌}
 use native.Mathlib.Omega.{arith}
-use borrow.Author.Rules.{rules}
-use Rattle.rules.proofs.Marks.{Marks, marks_start, marks_end, Firsts, first_on, first_past}
+use Rattle.rules.proofs.Marks.{marks_start, marks_end, first_on, first_past}
 use Rattle.rules.proofs.mark_first.Goals as goal
 
 pub loop-door-init : goal.loop-door-init

@@ -1,8 +1,6 @@
 -- `mark_led` meets its contract: each turn goes past a door, and marks the location that the door names. Assumes nothing.
-use Prim.Native.Nat.{◌-◌}
 use native.Mathlib.Omega.{arith}
-use borrow.Author.Rules.{rules}
-use Rattle.rules.proofs.Marks.{Marks, marks_start, marks_end, Led, led_on, led_past}
+use Rattle.rules.proofs.Marks.{marks_start, marks_end, led_on, led_past}
 use Rattle.rules.proofs.mark_led.Goals as goal
 
 pub loop-door-init : goal.loop-door-init

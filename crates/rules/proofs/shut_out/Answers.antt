@@ -1,5 +1,4 @@
 -- `shut_out` meets its contract. Assumes nothing.
-use borrow.Author.Rules.{rules}
 use Rattle.rules.specs.Marks.{has_no_first}
 use Rattle.rules.proofs.shut_out.Goals as goal
 

@@ -1,5 +1,4 @@
 -- `strays` meets its contract. Assumes nothing.
-use borrow.Author.Rules.{rules}
 use native.Mathlib.Omega.{arith}
 use Rattle.tables.specs.Way.{unvisited}
 use Rattle.tables.specs.Tests.{strays}

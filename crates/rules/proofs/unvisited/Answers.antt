@@ -1,5 +1,4 @@
 -- `unvisited` meets its contract. Assumes nothing.
-use borrow.Author.Rules.{rules}
 use native.Mathlib.Omega.{arith}
 use Rattle.tables.specs.Way.{unvisited}
 use Rattle.rules.proofs.unvisited.Goals as goal

@@ -1,7 +1,6 @@
 -- `way_by_exits` meets its contract: the way is measured, and written where there is room for it. Assumes nothing.
 use Prim.Native.Nat.{◌≤◌, ◌<◌}
 use mathlib.Core.Path.{◌≡◌, ◌∙◌}
-use borrow.Author.Rules.{rules}
 use native.Mathlib.Omega.{arith}
 use lib.ListN.{length}
 use Rattle.tables.specs.Way.{way_of}

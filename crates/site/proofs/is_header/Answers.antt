@@ -1,7 +1,6 @@
 -- `site::is_header` meets its contract.
 -- Assumes nothing.
 use Rattle.site_lines.specs.Line.{site_header_at}
-use borrow.Author.Rules.{rules}
 use Rattle.site.proofs.is_header.Goals as goal
 
 pub returns : goal.returns

@@ -2,7 +2,6 @@
 -- Assumes nothing.
 use mathlib.Core.Path.{sym, ◌∙◌}
 use Rattle.site_sheet.specs.Site.{judged_draft}
-use borrow.Author.Rules.{rules}
 use Rattle.site.proofs.judged.Goals as goal
 
 pub returns-in-At : goal.returns-in-At

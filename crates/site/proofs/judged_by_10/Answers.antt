@@ -1,7 +1,6 @@
 -- `site::judged_by_10` meets its contract: whoever is shut out is told, and else the record is given.
 -- Assumes nothing.
 use mathlib.Core.Path.{sym, ◌∙◌}
-use borrow.Author.Rules.{rules}
 use Rattle.site.proofs.judged_by_10.Goals as goal
 
 pub returns-in-At : goal.returns-in-At

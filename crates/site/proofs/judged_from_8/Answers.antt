@@ -1,7 +1,6 @@
 -- `site::judged_from_8` meets its contract: the first rule that finds an offender decides.
 -- Assumes nothing.
 use mathlib.Core.Path.{sym, ◌∙◌}
-use borrow.Author.Rules.{rules}
 use Rattle.site.proofs.judged_from_8.Goals as goal
 
 pub returns-in-At : goal.returns-in-At

@@ -1,9 +1,8 @@
 -- `site::read_site` meets its contract.
 -- Assumes nothing.
 use mathlib.Core.Path.{sym, ◌∙◌}
-use borrow.Author.Tests.{not-true, not-false, lt-ltb, le-ltb}
+use borrow.Author.Tests.{lt-ltb, le-ltb}
 use Rattle.site_sheet.specs.Site.{site_at, after_header}
-use borrow.Author.Rules.{rules}
 use Rattle.site.proofs.read_site.Goals as goal
 
 pub returns-then-s-gt-LIMIT : goal.returns-then-s-gt-LIMIT

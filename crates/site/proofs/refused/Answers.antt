@@ -2,7 +2,6 @@
 -- Assumes nothing.
 use Rattle.site_lines.specs.Draft.{unmarked}
 use Rattle.tables.specs.Zero.{zeros}
-use borrow.Author.Rules.{rules}
 use Rattle.site.proofs.refused.Goals as goal
 
 pub returns : goal.returns

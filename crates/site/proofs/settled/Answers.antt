@@ -2,7 +2,6 @@
 -- Assumes nothing.
 use borrow.Author.Tests.{eq-eqb, ne_eqb}
 use Rattle.site_sheet.specs.Site.{settled}
-use borrow.Author.Rules.{rules}
 use Rattle.site.proofs.settled.Goals as goal
 
 pub returns-then-draft-eq0 : goal.returns-then-draft-eq0

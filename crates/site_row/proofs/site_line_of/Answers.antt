@@ -3,7 +3,6 @@
 use mathlib.Core.Path.{sym, ◌∙◌}
 use borrow.Author.Tests.{eq-eqb, ne_eqb}
 use Rattle.site_lines.specs.Line.{site_line_at}
-use borrow.Author.Rules.{rules}
 use Rattle.site_row.proofs.site_line_of.Goals as goal
 
 pub returns-then-cells-ne3 : goal.returns-then-cells-ne3

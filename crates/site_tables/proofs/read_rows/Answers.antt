@@ -2,7 +2,6 @@
 -- Assumes nothing.
 use Rattle.tables.specs.Zero.{zeros}
 use Rattle.site_lines.specs.Draft.{unmarked}
-use borrow.Author.Rules.{rules}
 use Rattle.site_tables.proofs.read_rows.Goals as goal
 
 pub returns : goal.returns

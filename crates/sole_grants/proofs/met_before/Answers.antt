@@ -2,7 +2,6 @@
 use Prim.Native.Nat.{◌-◌}
 use mathlib.Core.Bool.{true, false}
 use borrow.Author.Tests.{le-leb, lt-leb}
-use borrow.Author.Rules.{rules}
 use lib.ListN.{get_or-eq_default}
 use lib.Seq.{set_out}
 use Rattle.tables.specs.Tables.{and_also}

@@ -1,10 +1,7 @@
 -- `sole_grants` meets its contract: each walk tells of the next people, till no grant is of a person beyond. Assumes nothing.
 use Prim.Native.Nat.{◌-◌}
-use mathlib.Core.Path.{sym, subst}
-use native.Mathlib.Omega.{arith}
-use borrow.Author.Rules.{rules}
-use Rattle.sole_grants.specs.Marks.{most_holder, WalkTells}
-use Rattle.sole_grants.proofs.Walks.{Cleared, cleared_start, cleared_all, cleared_more}
+use Rattle.sole_grants.specs.Marks.{most_holder}
+use Rattle.sole_grants.proofs.Walks.{Cleared}
 use Rattle.sole_grants.proofs.sole_grants.Given as goal
 
 abbrev pub invariant-loop-from : goal.invariant-loop-from

@@ -1,9 +1,8 @@
 -- `walk_doors` meets its contract: each turn goes past a door, and marks the person of its grant. Assumes nothing.
-use Prim.Native.Nat.{◌-◌}
 use mathlib.Core.Path.{sym, ◌∙◌}
 use native.Mathlib.Omega.{arith}
 use borrow.Author.Rules.{rules}
-use Rattle.sole_grants.proofs.Walks.{WalkSoFar, so_far_start, so_far_past, so_far_twice, so_far_beyond, so_far_on, so_far_end}
+use Rattle.sole_grants.proofs.Walks.{so_far_start, so_far_past, so_far_twice, so_far_beyond, so_far_on, so_far_end}
 use Rattle.sole_grants.proofs.walk_doors.Goals as goal
 
 pub loop-door-init : goal.loop-door-init

@@ -1,7 +1,6 @@
 -- `door_fits` meets its contract: each return is decided by the test before it. Assumes nothing.
 use borrow.Author.Tests.{lt-ltb, le-ltb}
 use Rattle.soundness.specs.SoundTest.{door_fits}
-use borrow.Author.Rules.{rules}
 use Rattle.soundness.proofs.door_fits.Goals as goal
 
 pub returns-then-door-doors : goal.returns-then-door-doors

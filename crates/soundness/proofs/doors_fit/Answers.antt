@@ -1,9 +1,6 @@
 -- `doors_fit` meets its contract: the loop tests every door before it goes on. Assumes nothing.
-use Prim.Native.Nat.{◌-◌}
-use mathlib.Core.Bool.{true}
-use Rattle.tables.specs.Tables.{most_doors}
-use Rattle.tables.proofs.Scans.{Scan, scans}
-use Rattle.soundness.specs.SoundTest.{door_fits, doors_fit}
+use Rattle.tables.proofs.Scans.{scans}
+use Rattle.soundness.specs.SoundTest.{doors_fit}
 use Rattle.soundness.proofs.doors_fit.Goals as goal
 
 pub loop-door-init : goal.loop-door-init

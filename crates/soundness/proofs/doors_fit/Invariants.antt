@@ -2,8 +2,8 @@
 use Prim.Native.Nat.{◌-◌}
 use mathlib.Core.Bool.{true}
 use Rattle.tables.specs.Tables.{most_doors}
-use Rattle.tables.proofs.Scans.{Scan, scans}
-use Rattle.soundness.specs.SoundTest.{door_fits, doors_fit}
+use Rattle.tables.proofs.Scans.{Scan}
+use Rattle.soundness.specs.SoundTest.{door_fits}
 use Rattle.soundness.proofs.doors_fit.Given as goal
 
 abbrev pub invariant-loop-door : goal.invariant-loop-door

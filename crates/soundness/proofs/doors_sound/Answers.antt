@@ -1,7 +1,6 @@
 -- `doors_sound` meets its contract: the tests of `doors_sound`, one after the other. Assumes nothing.
 use Rattle.tables.proofs.Cases.{test_chain}
 use Rattle.soundness.specs.SoundTest.{doors_sound}
-use borrow.Author.Rules.{rules}
 use Rattle.soundness.proofs.doors_sound.Goals as goal
 
 pub returns-then-not-doors_fit : goal.returns-then-not-doors_fit

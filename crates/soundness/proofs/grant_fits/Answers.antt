@@ -1,8 +1,7 @@
 -- `grant_fits` meets its contract: each return is decided by the tests before it. Assumes nothing.
-use borrow.Author.Tests.{eq-eqb, ne_eqb, not-true, not-false}
+use borrow.Author.Tests.{eq-eqb, ne_eqb}
 use Rattle.tables.specs.Tables.{or_else, and_also}
 use Rattle.soundness.specs.SoundTest.{grant_fits}
-use borrow.Author.Rules.{rules}
 use Rattle.soundness.proofs.grant_fits.Goals as goal
 
 pub returns-then-not-grants : goal.returns-then-not-grants

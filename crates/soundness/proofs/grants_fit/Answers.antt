@@ -1,10 +1,6 @@
 -- `grants_fit` meets its contract: the loop tests every door before it goes on, whatever the rest of the plan is. Assumes nothing.
-use Prim.Native.Nat.{ℕ, ◌-◌}
-use mathlib.Core.Bool.{true}
-use mathlib.Core.List.{List}
-use Rattle.tables.specs.Tables.{plan}
-use Rattle.tables.proofs.Scans.{Scan, scans, scan_start, all_on, all_here, all_end}
-use Rattle.soundness.specs.SoundTest.{grant_fits, grants_fit}
+use Rattle.tables.proofs.Scans.{scans, scan_start, all_on, all_here, all_end}
+use Rattle.soundness.specs.SoundTest.{grants_fit}
 use mathlib.Core.Bool.{not}
 use mathlib.Core.Path.{ap}
 use Rattle.soundness.proofs.grants_fit.Goals as goal

@@ -3,8 +3,8 @@ use Prim.Native.Nat.{ℕ, ◌-◌}
 use mathlib.Core.Bool.{true}
 use mathlib.Core.List.{List}
 use Rattle.tables.specs.Tables.{plan}
-use Rattle.tables.proofs.Scans.{Scan, scans, scan_start, all_on, all_here, all_end}
-use Rattle.soundness.specs.SoundTest.{grant_fits, grants_fit}
+use Rattle.tables.proofs.Scans.{Scan}
+use Rattle.soundness.specs.SoundTest.{grant_fits}
 use Rattle.soundness.proofs.grants_fit.Given as goal
 
 abbrev pub invariant-loop-door : goal.invariant-loop-door

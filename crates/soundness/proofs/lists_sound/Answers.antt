@@ -1,7 +1,6 @@
 -- `lists_sound` meets its contract: the tests of `lists_sound`, one after the other. Assumes nothing.
 use Rattle.tables.proofs.Cases.{test_chain}
 use Rattle.soundness.specs.SoundTest.{lists_sound}
-use borrow.Author.Rules.{rules}
 use Rattle.soundness.proofs.lists_sound.Goals as goal
 
 pub returns-then-not-lawful : goal.returns-then-not-lawful

@@ -1,7 +1,6 @@
 -- `place_fits` meets its contract: each return is decided by the test before it. Assumes nothing.
 use borrow.Author.Tests.{lt-ltb, le-ltb}
 use Rattle.soundness.specs.SoundTest.{place_fits}
-use borrow.Author.Rules.{rules}
 use Rattle.soundness.proofs.place_fits.Goals as goal
 
 pub returns-then-person-people : goal.returns-then-person-people

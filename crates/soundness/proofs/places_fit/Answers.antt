@@ -1,9 +1,6 @@
 -- `places_fit` meets its contract: the loop tests every person before it goes on. Assumes nothing.
-use Prim.Native.Nat.{◌-◌}
-use mathlib.Core.Bool.{true}
-use lib.ListN.{length}
-use Rattle.tables.proofs.Scans.{Scan, scans}
-use Rattle.soundness.specs.SoundTest.{place_fits, places_fit}
+use Rattle.tables.proofs.Scans.{scans}
+use Rattle.soundness.specs.SoundTest.{places_fit}
 use Rattle.soundness.proofs.places_fit.Goals as goal
 
 pub loop-person-init : goal.loop-person-init

@@ -2,8 +2,8 @@
 use Prim.Native.Nat.{◌-◌}
 use mathlib.Core.Bool.{true}
 use lib.ListN.{length}
-use Rattle.tables.proofs.Scans.{Scan, scans}
-use Rattle.soundness.specs.SoundTest.{place_fits, places_fit}
+use Rattle.tables.proofs.Scans.{Scan}
+use Rattle.soundness.specs.SoundTest.{place_fits}
 use Rattle.soundness.proofs.places_fit.Given as goal
 
 abbrev pub invariant-loop-person : goal.invariant-loop-person

@@ -1,10 +1,7 @@
 -- `rights_fit` meets its contract: the loop tests each person's row, and then what is beyond the people. Assumes nothing.
 use Prim.Native.Nat.{◌-◌}
-use mathlib.Core.Path.{sym, ◌∙◌}
 use lib.ListN.{length}
-use borrow.Author.Rules.{rules}
-use borrow.Author.Tests.{not-true, not-false}
-use Rattle.soundness.proofs.Rights.{RowsSoFar, rows_start, rows_more, row_unfit, rows_end, rows_beyond}
+use Rattle.soundness.proofs.Rights.{RowsSoFar}
 use Rattle.soundness.proofs.rights_fit.Given as goal
 
 abbrev pub invariant-loop-row : goal.invariant-loop-row

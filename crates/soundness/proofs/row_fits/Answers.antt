@@ -1,7 +1,6 @@
--- `row_fits_lem` meets its contract: each return is decided by the tests before it. Assumes nothing.
+-- `row_fits` meets its contract: each return is decided by the tests before it. Assumes nothing.
 use mathlib.Core.Path.{sym, ◌∙◌}
 use native.Mathlib.Omega.{arith}
-use borrow.Author.Rules.{rules}
 use Rattle.tables.specs.Tables.{and_also}
 use Rattle.soundness.specs.Rights.{row_fits}
 use Rattle.soundness.proofs.Rights.{tell_row}

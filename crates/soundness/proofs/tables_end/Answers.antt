@@ -1,7 +1,6 @@
 -- `tables_end` meets its contract: the tests of `zero_beyond`, one after the other. Assumes nothing.
 use Rattle.tables.proofs.Cases.{chain_told}
 use Rattle.soundness.specs.SoundTest.{zero_beyond}
-use borrow.Author.Rules.{rules}
 use Rattle.soundness.proofs.tables_end.Goals as goal
 
 pub returns-then-not-zero_from : goal.returns-then-not-zero_from

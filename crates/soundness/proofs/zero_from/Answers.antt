@@ -1,12 +1,8 @@
 -- `zero_from` meets its contract: the loop tests every entry before it goes on. Assumes nothing.
-use Prim.Native.Nat.{◌-◌}
 use mathlib.Core.Path.{sym, ◌∙◌}
-use borrow.Author.Rules.{rules}
 use borrow.Author.Tests.{eq-eqb, ne_eqb}
-use lib.ListN.{length, get_or}
-use lib.Dec.{eqb}
 use Rattle.soundness.specs.SoundTest.{zero_at, zero_from}
-use Rattle.soundness.proofs.Onward.{Onward, onward_start, onward_more, onward_stop, onward_end}
+use Rattle.soundness.proofs.Onward.{onward_start, onward_more, onward_stop, onward_end}
 use Rattle.soundness.proofs.zero_from.Goals as goal
 
 pub loop-at-init : goal.loop-at-init

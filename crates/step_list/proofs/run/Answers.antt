@@ -1,6 +1,5 @@
 -- `run` meets its contract: 14, then 13, then the fold. Assumes nothing.
 use mathlib.Core.Path.{sym, ◌∙◌}
-use borrow.Author.Tests.{not-false}
 use Rattle.record.specs.Doors.{Shaped}
 use Rattle.record.proofs.Tells.{sound_tells}
 use Rattle.step_list.proofs.Running.{ran_unsound, ran_short, ran_done, telling_unsound, telling_short, telling_done, room}

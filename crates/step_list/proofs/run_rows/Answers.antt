@@ -1,11 +1,8 @@
 -- `run_rows` meets its contract: each turn is one step of the fold. Assumes nothing.
-use Prim.Native.Nat.{◌-◌}
-use lib.ListN.{length}
 use native.Mathlib.Omega.{arith}
 use Rattle.record.specs.Doors.{Shaped}
-use Rattle.record.specs.Deeds.{holding}
 use Rattle.record.proofs.Deeds.{stepped}
-use Rattle.step_list.proofs.Running.{Running, Has, run_start, run_more, run_last, run_answers, run_phases, run_reasons, run_held}
+use Rattle.step_list.proofs.Running.{Has, run_start, run_more, run_last, run_answers, run_phases, run_reasons, run_held}
 use borrow.Author.Rules.{rules}
 use Rattle.step_list.proofs.run_rows.Goals as goal
 

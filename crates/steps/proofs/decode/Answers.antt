@@ -1,7 +1,5 @@
 -- `decode` meets its contract: the lists have room for the steps and are filled, or nothing is written. Assumes nothing.
 use mathlib.Core.Path.{refl, sym, ◌∙◌}
-use borrow.Author.Rules.{rules}
-use borrow.Author.Tests.{not-true, not-false}
 use Rattle.steps_sheet.specs.Lent.{decoded_of, listed}
 use Rattle.steps.proofs.decode.Goals as goal
 

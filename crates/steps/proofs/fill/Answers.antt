@@ -1,7 +1,5 @@
 -- `fill` meets its contract: each turn is one row more. Assumes nothing.
-use Prim.Native.Nat.{◌-◌}
-use lib.ListN.{length}
-use Rattle.steps_sheet.proofs.Decoding.{Decoding, decoding, decode_bad, decode_over, decode_broken}
+use Rattle.steps_sheet.proofs.Decoding.{decoding, decode_bad, decode_over, decode_broken}
 use Rattle.steps.proofs.fill.Goals as goal
 
 pub loop-cells-init : goal.loop-cells-init

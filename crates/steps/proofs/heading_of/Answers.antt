@@ -1,11 +1,10 @@
 -- `heading_of` meets its contract: the length, then the first row. Assumes nothing.
 use mathlib.Core.Path.{sym, ◌∙◌}
-use borrow.Author.Tests.{not-true, not-false, lt-ltb, le-ltb}
+use borrow.Author.Tests.{lt-ltb, le-ltb}
 use native.Mathlib.Omega.{arith}
 use lib.ListN.{length}
 use Rattle.grammar.specs.Sizes.{limit}
 use Rattle.steps_sheet.specs.Steps.{heading_at}
-use borrow.Author.Rules.{rules}
 use Rattle.steps.proofs.heading_of.Goals as goal
 
 pub returns-then-s-gt-LIMIT : goal.returns-then-s-gt-LIMIT

@@ -1,9 +1,7 @@
 -- `person_of` meets its contract. Assumes nothing.
 use mathlib.Core.Path.{sym, ◌∙◌}
-use mathlib.Core.List.{[], ◌∷◌}
 use Rattle.phases.proofs.Steps.{others_name_none}
 use Rattle.steps_sheet.specs.Steps.{person_at}
-use borrow.Author.Rules.{rules}
 use Rattle.steps_row.proofs.person_of.Goals as goal
 
 pub returns-in-Card : goal.returns-in-Card

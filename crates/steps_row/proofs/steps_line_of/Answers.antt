@@ -1,12 +1,10 @@
 -- `steps_line_of` meets its contract: three fields, the door, the step and its person. Assumes nothing.
 use mathlib.Core.Path.{sym, ◌∙◌}
-use mathlib.Core.List.{[], ◌∷◌}
 use native.Mathlib.Omega.{arith}
 use borrow.Author.Tests.{eq-eqb, ne_eqb}
 use Rattle.cell_meaning.proofs.Saying.{number_small}
 use Rattle.steps_sheet.specs.Steps.{steps_line_at}
 use Rattle.steps_sheet.proofs.Rows.{others_are_steps, person_small}
-use borrow.Author.Rules.{rules}
 use Rattle.steps_row.proofs.steps_line_of.Goals as goal
 
 pub returns-then-cells-ne3 : goal.returns-then-cells-ne3

@@ -4,7 +4,6 @@ use native.Mathlib.Omega.{arith}
 use Rattle.text.proofs.Writing.{begun, more, last}
 use Rattle.text.specs.Text.{digits, decimal}
 use Rattle.syslog.specs.Rows.{event_row}
-use borrow.Author.Rules.{rules}
 use Rattle.stream_rows.proofs.put_event.Goals as goal
 
 pub returns : goal.returns

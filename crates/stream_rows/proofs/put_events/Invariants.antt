@@ -1,12 +1,7 @@
 -- `put_events` meets its contract: each turn is one frame and its row. Assumes nothing.
 use Prim.Native.Nat.{◌-◌}
-use mathlib.Core.Path.{subst}
-use native.Mathlib.Omega.{arith}
-use borrow.Author.Rules.{rules}
 use lib.ListN.{length}
-use Rattle.syslog.specs.Reading.{ReadsFrame}
-use Rattle.syslog.proofs.Finding.{frame_onward}
-use Rattle.syslog.proofs.Rowing.{Rowing, rowing_start, rowing_more, rowing_end, rowing_break}
+use Rattle.syslog.proofs.Rowing.{Rowing}
 use Rattle.stream_rows.proofs.put_events.Given as goal
 
 abbrev pub invariant-loop-event : goal.invariant-loop-event

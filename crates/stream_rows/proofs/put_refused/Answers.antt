@@ -3,7 +3,6 @@ use mathlib.Core.Path.{refl}
 use native.Mathlib.Omega.{arith}
 use Rattle.text.proofs.Writing.{begun, more, last}
 use Rattle.syslog.specs.Rows.{refused_row}
-use borrow.Author.Rules.{rules}
 use Rattle.stream_rows.proofs.put_refused.Goals as goal
 
 pub returns : goal.returns

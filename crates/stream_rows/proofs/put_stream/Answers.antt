@@ -3,7 +3,6 @@ use mathlib.Core.Path.{refl}
 use native.Mathlib.Omega.{arith}
 use Rattle.text.proofs.Writing.{begun, more, last}
 use Rattle.syslog.specs.Rows.{stream_rows}
-use borrow.Author.Rules.{rules}
 use Rattle.stream_rows.proofs.put_stream.Goals as goal
 
 pub returns : goal.returns

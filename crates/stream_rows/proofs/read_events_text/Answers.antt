@@ -1,6 +1,5 @@
 -- `read_events_text` meets its contract: a long stream is refused. Assumes nothing.
 use native.Mathlib.Omega.{arith}
-use borrow.Author.Rules.{rules}
 use Rattle.stream_rows.proofs.read_events_text.Goals as goal
 
 pub returns-then-stream-gt-MOST_STREAM : goal.returns-then-stream-gt-MOST_STREAM

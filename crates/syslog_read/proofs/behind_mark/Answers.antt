@@ -1,10 +1,7 @@
 -- `behind_mark` meets its contract: each turn passes over one byte more. Assumes nothing.
-use Prim.Native.Nat.{◌+◌, ◌-◌}
+use Prim.Native.Nat.{◌+◌}
 use mathlib.Core.Path.{◌∙◌}
-use lib.ListN.{length}
-use Rattle.syslog.specs.Guess.{behind_mark}
-use Rattle.syslog.proofs.Loops.{SoFar, so_start, mark_found, mark_more, mark_none, tail_is}
-use borrow.Author.Rules.{rules}
+use Rattle.syslog.proofs.Loops.{so_start, mark_found, mark_more, mark_none, tail_is}
 use Rattle.syslog_read.proofs.behind_mark.Goals as goal
 
 pub loop-i-init : goal.loop-i-init

@@ -1,10 +1,8 @@
 -- `behind_mark` meets its contract: each turn passes over one byte more. Assumes nothing.
-use Prim.Native.Nat.{◌+◌, ◌-◌}
-use mathlib.Core.Path.{◌∙◌}
+use Prim.Native.Nat.{◌-◌}
 use lib.ListN.{length}
 use Rattle.syslog.specs.Guess.{behind_mark}
-use Rattle.syslog.proofs.Loops.{SoFar, so_start, mark_found, mark_more, mark_none, tail_is}
-use borrow.Author.Rules.{rules}
+use Rattle.syslog.proofs.Loops.{SoFar}
 use Rattle.syslog_read.proofs.behind_mark.Given as goal
 
 abbrev pub invariant-loop-i : goal.invariant-loop-i

@@ -1,5 +1,4 @@
 -- `guess` meets its contract: the MSGID, and what stands behind each mark. Assumes nothing.
-use borrow.Author.Rules.{rules}
 use Rattle.syslog_read.proofs.guess.Goals as goal
 
 pub returns : goal.returns

@@ -5,7 +5,6 @@ use lib.Seq.{length-take-le}
 use Rattle.syslog.proofs.Fit.{fits_tells}
 use Rattle.syslog.proofs.Lengths.{line_short}
 use Rattle.syslog.proofs.Written.{own_text, own_tells}
-use borrow.Author.Rules.{rules}
 use Rattle.syslog_read.proofs.is_line.Goals as goal
 
 pub slice_bounds-own-end : goal.slice_bounds-own-end

@@ -1,9 +1,5 @@
 -- `msgid_in` meets its contract: each turn passes over one byte more. Assumes nothing.
-use Prim.Native.Nat.{◌-◌}
-use lib.ListN.{length}
-use Rattle.syslog.specs.Guess.{msgid_in}
-use Rattle.syslog.proofs.Loops.{SoFar, so_start, letter_found, letter_more, letter_none}
-use borrow.Author.Rules.{rules}
+use Rattle.syslog.proofs.Loops.{so_start, letter_found, letter_more, letter_none}
 use Rattle.syslog_read.proofs.msgid_in.Goals as goal
 
 pub loop-i-init : goal.loop-i-init

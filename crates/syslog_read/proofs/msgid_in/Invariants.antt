@@ -2,8 +2,7 @@
 use Prim.Native.Nat.{◌-◌}
 use lib.ListN.{length}
 use Rattle.syslog.specs.Guess.{msgid_in}
-use Rattle.syslog.proofs.Loops.{SoFar, so_start, letter_found, letter_more, letter_none}
-use borrow.Author.Rules.{rules}
+use Rattle.syslog.proofs.Loops.{SoFar}
 use Rattle.syslog_read.proofs.msgid_in.Given as goal
 
 abbrev pub invariant-loop-i : goal.invariant-loop-i

@@ -1,10 +1,7 @@
 -- `number_from` meets its contract: each turn reads one digit more. Assumes nothing.
-use Prim.Native.Nat.{◌-◌}
 use mathlib.Core.Path.{sym, ◌∙◌}
 use native.Mathlib.Omega.{arith}
-use borrow.Author.Tests.{not-true, not-false}
-use Rattle.syslog.proofs.Loops.{Numbering, number_start, digit_within, number_bounded, number_more, number_ends, number_stops, number_full}
-use borrow.Author.Rules.{rules}
+use Rattle.syslog.proofs.Loops.{number_start, digit_within, number_bounded, number_more, number_ends, number_stops, number_full}
 use Rattle.syslog_read.proofs.number_from.Goals as goal
 
 pub loop-i-init : goal.loop-i-init

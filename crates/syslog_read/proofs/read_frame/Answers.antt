@@ -3,13 +3,11 @@ use Prim.Native.Nat.{◌<◌}
 use mathlib.Core.Path.{sym, ap, ◌∙◌}
 use mathlib.Core.Bool.{true≢false}
 use native.Mathlib.Omega.{arith}
-use borrow.Author.Tests.{not-true, not-false}
 use lib.ListN.{length}
 use lib.Seq.{length-take-le}
 use Rattle.syslog.specs.Line.{framed_of, fits_line}
 use Rattle.syslog.proofs.Loops.{tail_is}
 use Rattle.syslog.proofs.Finding.{frame_past, frame_cut, frame_unfit, frame_other, frame_found}
-use borrow.Author.Rules.{rules}
 use Rattle.syslog_read.proofs.read_frame.Goals as goal
 
 pub returns-then-stream-at : goal.returns-then-stream-at

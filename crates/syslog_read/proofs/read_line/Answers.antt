@@ -1,10 +1,8 @@
 -- `read_line` meets its contract: the guess decides. Assumes nothing.
 use mathlib.Core.Path.{sym, ap, ◌∙◌}
 use mathlib.Core.Bool.{true≢false}
-use borrow.Author.Tests.{not-true, not-false}
 use Rattle.syslog.specs.Line.{line_of, fits_line}
 use Rattle.syslog.proofs.Finding.{line_found, line_unfit, line_other}
-use borrow.Author.Rules.{rules}
 use Rattle.syslog_read.proofs.read_line.Goals as goal
 
 pub returns-then-not-fits_line : goal.returns-then-not-fits_line

@@ -1,10 +1,9 @@
--- `fits_line_lem` meets its contract: four tests, one after the other. Assumes nothing.
+-- `fits_line` meets its contract: four tests, one after the other. Assumes nothing.
 use mathlib.Core.Path.{ap}
 use mathlib.Core.Bool.{not}
 use Rattle.tables.proofs.Cases.{chain_above, chain_within}
 use Rattle.tables.proofs.Chain.{and_stop, and_on}
 use Rattle.syslog.specs.Line.{fits_line}
-use borrow.Author.Rules.{rules}
 use Rattle.syslog_write.proofs.fits_line.Goals as goal
 
 pub returns-then-event-gt-MOST_NUMBER : goal.returns-then-event-gt-MOST_NUMBER

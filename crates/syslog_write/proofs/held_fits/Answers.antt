@@ -1,4 +1,4 @@
--- `held_fits_lem` meets its contract, by the reason. Assumes nothing.
+-- `held_fits` meets its contract, by the reason. Assumes nothing.
 use borrow.Author.Tests.{eq-eqb, ne_eqb}
 use Rattle.syslog.specs.Line.{held_fits}
 use Rattle.syslog_write.proofs.held_fits.Goals as goal

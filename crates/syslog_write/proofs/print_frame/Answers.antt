@@ -1,7 +1,6 @@
 -- `print_frame` meets its contract: the text is measured, and written where it fits. Assumes nothing.
 use native.Mathlib.Omega.{arith}
 use Rattle.text.proofs.Printing.{measured}
-use borrow.Author.Rules.{rules}
 use Rattle.syslog_write.proofs.print_frame.Goals as goal
 
 pub returns-then-out-length : goal.returns-then-out-length

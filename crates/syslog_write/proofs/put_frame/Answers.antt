@@ -6,7 +6,6 @@ use Rattle.text.proofs.Writing.{begun, more, last}
 use Rattle.text.proofs.Printing.{unaltered, size_is}
 use Rattle.syslog.specs.Line.{line_of, framed_of}
 use Rattle.syslog.proofs.Lengths.{line_small}
-use borrow.Author.Rules.{rules}
 use Rattle.syslog_write.proofs.put_frame.Goals as goal
 
 pub returns : goal.returns

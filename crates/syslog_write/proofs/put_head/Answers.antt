@@ -3,7 +3,6 @@ use mathlib.Core.Path.{sym, ap}
 use Rattle.text.specs.Text.{digits, decimal}
 use Rattle.text.proofs.Writing.{said}
 use Rattle.syslog.specs.Line.{head_of}
-use borrow.Author.Rules.{rules}
 use Rattle.syslog_write.proofs.put_head.Goals as goal
 
 pub returns-in-Grant : goal.returns-in-Grant

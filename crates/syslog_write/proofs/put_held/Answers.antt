@@ -3,7 +3,6 @@ use mathlib.Core.Path.{refl}
 use native.Mathlib.Omega.{arith}
 use borrow.Author.Tests.{eq-eqb, ne_eqb}
 use Rattle.text.proofs.Writing.{begun, more, last, ended}
-use borrow.Author.Rules.{rules}
 use Rattle.syslog_write.proofs.put_held.Goals as goal
 
 pub returns-then-reason-ne-HELD_REASON : goal.returns-then-reason-ne-HELD_REASON

@@ -3,7 +3,6 @@ use mathlib.Core.Path.{refl}
 use native.Mathlib.Omega.{arith}
 use Rattle.text.proofs.Writing.{begun, more, last}
 use Rattle.syslog.proofs.Lengths.{head_and_tail}
-use borrow.Author.Rules.{rules}
 use Rattle.syslog_write.proofs.put_line.Goals as goal
 
 pub returns : goal.returns

@@ -4,7 +4,6 @@ use native.Mathlib.Omega.{arith}
 use Rattle.text.proofs.Writing.{begun, more, last, ended, said}
 use Rattle.syslog.specs.Line.{reason_part}
 use Rattle.syslog.specs.declared.Msgid.{Msgid}
-use borrow.Author.Rules.{rules}
 use Rattle.syslog_write.proofs.put_reason.Goals as goal
 
 pub returns-in-Grant : goal.returns-in-Grant

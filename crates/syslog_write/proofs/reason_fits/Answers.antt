@@ -1,6 +1,5 @@
 -- `reason_fits` meets its contract, by what the event is. Assumes nothing.
 use Rattle.syslog.specs.Line.{reason_fits}
-use borrow.Author.Rules.{rules}
 use Rattle.syslog_write.proofs.reason_fits.Goals as goal
 
 pub returns-in-Grant : goal.returns-in-Grant

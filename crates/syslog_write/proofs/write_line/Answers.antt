@@ -1,8 +1,6 @@
 -- `write_line` meets its contract: an event that doesn't fit is refused first. Assumes nothing.
 use mathlib.Core.Path.{sym, ◌∙◌}
-use borrow.Author.Tests.{not-true, not-false}
 use Rattle.syslog.proofs.Written.{writes_unfit, writes_printed}
-use borrow.Author.Rules.{rules}
 use Rattle.syslog_write.proofs.write_line.Goals as goal
 
 pub returns-then-not-fits_line : goal.returns-then-not-fits_line

@@ -2,7 +2,6 @@
 -- Assumes nothing.
 use borrow.Author.Tests.{le-leb, lt-leb}
 use Rattle.cell_meaning.specs.Say.{content_at}
-use borrow.Author.Rules.{rules}
 use Rattle.cells.proofs.say.content.Goals as goal
 
 pub returns-then-end-s : goal.returns-then-end-s

@@ -1,12 +1,9 @@
 -- `cells::say::digits` meets its contract. The invariant of its loop: the answer from digit i on is the answer from the start, and the value has at most i digits.
 -- Assumes nothing.
-use Prim.Native.Nat.{◌-◌}
 use mathlib.Core.Path.{sym, ◌∙◌}
 use native.Mathlib.Omega.{arith}
-use lib.ListN.{length}
 use borrow.Author.Tests.{lt-ltb, le-ltb}
-use Rattle.cell_meaning.proofs.Saying.{DigitsSoFar, digits_start, digits_turn, digits_more, digits_end, digits_limit}
-use borrow.Author.Rules.{rules}
+use Rattle.cell_meaning.proofs.Saying.{digits_start, digits_turn, digits_more, digits_end, digits_limit}
 use Rattle.cells.proofs.say.digits.Goals as goal
 
 pub loop-i-init : goal.loop-i-init

@@ -1,7 +1,6 @@
 -- `cells::say::is_word` meets its contract.
 -- Assumes nothing.
 use Rattle.cell_meaning.specs.Say.{is_word}
-use borrow.Author.Rules.{rules}
 use Rattle.cells.proofs.say.is_word.Goals as goal
 
 pub returns-then-cell : goal.returns-then-cell

@@ -2,7 +2,6 @@
 -- Assumes nothing.
 use borrow.Author.Tests.{lt-ltb, le-ltb}
 use Rattle.cell_meaning.specs.Say.{needless_zero}
-use borrow.Author.Rules.{rules}
 use Rattle.cells.proofs.say.needless_zero.Goals as goal
 
 pub returns-then-c-lt2 : goal.returns-then-c-lt2

@@ -2,7 +2,6 @@
 -- Assumes nothing.
 use borrow.Author.Tests.{eq-eqb, ne_eqb, lt-ltb, le-ltb}
 use Rattle.cell_meaning.specs.Say.{number_in}
-use borrow.Author.Rules.{rules}
 use Rattle.cells.proofs.say.number_in.Goals as goal
 
 pub returns-then-c-eq0 : goal.returns-then-c-eq0

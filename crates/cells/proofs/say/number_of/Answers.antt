@@ -1,7 +1,6 @@
 -- `cells::say::number_of` meets its contract.
 -- Assumes nothing.
 use Rattle.cell_meaning.specs.Say.{number_at}
-use borrow.Author.Rules.{rules}
 use Rattle.cells.proofs.say.number_of.Goals as goal
 
 pub returns-then-cell : goal.returns-then-cell

@@ -1,9 +1,8 @@
 -- `say::says_words` meets its contract.
 -- Assumes nothing.
 use mathlib.Core.Path.{sym, ◌∙◌}
-use borrow.Author.Tests.{eq-eqb, ne_eqb, not-true, not-false}
+use borrow.Author.Tests.{eq-eqb, ne_eqb}
 use Rattle.cell_meaning.specs.Say.{says_words}
-use borrow.Author.Rules.{rules}
 use Rattle.cells.proofs.say.says_words.Goals as goal
 
 pub returns-then-cells-ne3 : goal.returns-then-cells-ne3

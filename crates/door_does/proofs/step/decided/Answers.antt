@@ -1,7 +1,6 @@
 -- `decided` meets its contract: granted where there is no reason, else denied. Assumes nothing.
 use borrow.Author.Tests.{eq-eqb, ne_eqb}
 use Rattle.door_does.specs.Does.{effect}
-use borrow.Author.Rules.{rules}
 use Rattle.door_does.proofs.step.decided.Goals as goal
 
 pub returns-then-why-eq-NONE : goal.returns-then-why-eq-NONE

@@ -1,6 +1,5 @@
 -- `does` meets its contract: each arm does what `effect` says of its step. Assumes nothing.
 use Rattle.door_does.specs.Does.{effect}
-use borrow.Author.Rules.{rules}
 use Rattle.door_does.proofs.step.does.Goals as goal
 
 pub returns-in-Card : goal.returns-in-Card

@@ -2,7 +2,6 @@
 use native.Mathlib.Omega.{arith}
 use borrow.Author.Tests.{eq-eqb, ne_eqb}
 use Rattle.door_does.specs.Does.{effect}
-use borrow.Author.Rules.{rules}
 use Rattle.door_does.proofs.step.ticked.Goals as goal
 
 pub returns-in-3 : goal.returns-in-3

@@ -1,6 +1,5 @@
 -- `sheet::cut::advance` meets its contract: each mode has the move that `move_of` gives it.
 -- Assumes nothing.
-use borrow.Author.Rules.{rules}
 use borrow.Author.Tests.{eq-eqb, ne_eqb}
 use Rattle.grammar.specs.Cut.{move_of}
 use Rattle.sheet.proofs.cut.advance.Goals as goal

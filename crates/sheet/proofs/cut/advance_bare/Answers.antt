@@ -1,6 +1,5 @@
 -- `sheet::cut::advance_bare` meets its contract: each byte has the move that `bare_move` gives it.
 -- Assumes nothing.
-use borrow.Author.Rules.{rules}
 use borrow.Author.Tests.{ne_eqb}
 use Rattle.grammar.specs.Cut.{bare_move}
 use Rattle.sheet.proofs.cut.advance_bare.Goals as goal

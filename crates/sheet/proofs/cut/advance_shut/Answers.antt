@@ -1,6 +1,5 @@
 -- `sheet::cut::advance_shut` meets its contract: each byte has the move that `shut_move` gives it.
 -- Assumes nothing.
-use borrow.Author.Rules.{rules}
 use borrow.Author.Tests.{eq-eqb, ne_eqb}
 use Rattle.grammar.specs.Cut.{shut_move}
 use Rattle.sheet.proofs.cut.advance_shut.Goals as goal

@@ -1,7 +1,6 @@
 -- `sheet::cut::at_end` meets its contract: the mode decides.
 -- Assumes nothing.
 use Rattle.grammar.specs.Cut.{end_of}
-use borrow.Author.Rules.{rules}
 use Rattle.sheet.proofs.cut.at_end.Goals as goal
 
 pub returns-in-Fresh : goal.returns-in-Fresh

@@ -1,9 +1,5 @@
 -- `sheet::cut::bare_end` meets its contract. The invariant of its loop is the contract, of the place that it has come to.
 -- Assumes nothing.
-use Prim.Native.Nat.{◌-◌}
-use borrow.Author.Rules.{rules}
-use lib.ListN.{length}
-use Rattle.sheet.specs.Bare.{BareUpTo}
 use Rattle.sheet.proofs.Bare.{bare_start, bare_more}
 use Rattle.sheet.proofs.cut.bare_end.Goals as goal
 

@@ -2,11 +2,7 @@
 -- Assumes nothing.
 use mathlib.Core.Path.{sym, ◌∙◌}
 use Rattle.grammar.proofs.Steps.{field_turn, field_end}
-use Prim.Native.Nat.{◌-◌}
-use mathlib.Core.Path.{◌≡◌}
-use lib.ListN.{length, drop}
-use Rattle.grammar.specs.Cut.{cut_field, field_from}
-use borrow.Author.Rules.{rules}
+use Rattle.grammar.specs.Cut.{cut_field}
 use Rattle.sheet.proofs.cut.cut_field.Goals as goal
 
 pub loop-i-init : goal.loop-i-init

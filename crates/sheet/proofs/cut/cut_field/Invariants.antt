@@ -1,12 +1,9 @@
 -- `sheet::cut::cut_field` meets its contract. The invariant of its loop: the answer from byte i on is the answer from the start.
 -- Assumes nothing.
-use mathlib.Core.Path.{sym, ◌∙◌}
-use Rattle.grammar.proofs.Steps.{field_turn, field_end}
 use Prim.Native.Nat.{◌-◌}
 use mathlib.Core.Path.{◌≡◌}
 use lib.ListN.{length, drop}
 use Rattle.grammar.specs.Cut.{cut_field, field_from}
-use borrow.Author.Rules.{rules}
 use Rattle.sheet.proofs.cut.cut_field.Given as goal
 
 abbrev pub invariant-loop-i : goal.invariant-loop-i

@@ -4,10 +4,7 @@ use mathlib.Core.Path.{sym, ◌∙◌}
 use native.Mathlib.Omega.{arith}
 use borrow.Author.Tests.{le-ltb}
 use Rattle.grammar.specs.Cut.{cut_row}
-use Prim.Native.Nat.{◌+◌, ◌-◌}
-use lib.ListN.{length}
-use Rattle.grammar.proofs.Steps.{RowSoFar, row_start, row_turn, row_more, field_within}
-use borrow.Author.Rules.{rules}
+use Rattle.grammar.proofs.Steps.{row_start, row_turn, row_more, field_within}
 use Rattle.sheet.proofs.cut.cut_fields.Goals as goal
 
 pub returns-then-s-at : goal.returns-then-s-at

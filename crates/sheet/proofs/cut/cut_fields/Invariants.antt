@@ -1,13 +1,8 @@
 -- `sheet::cut::cut_fields` meets its contract. The invariant of its loop: the answer from the field at i on is the answer from the start.
 -- Assumes nothing.
-use mathlib.Core.Path.{sym, ◌∙◌}
-use native.Mathlib.Omega.{arith}
-use borrow.Author.Tests.{le-ltb}
-use Rattle.grammar.specs.Cut.{cut_row}
 use Prim.Native.Nat.{◌+◌, ◌-◌}
 use lib.ListN.{length}
-use Rattle.grammar.proofs.Steps.{RowSoFar, row_start, row_turn, row_more, field_within}
-use borrow.Author.Rules.{rules}
+use Rattle.grammar.proofs.Steps.{RowSoFar}
 use Rattle.sheet.proofs.cut.cut_fields.Given as goal
 
 abbrev pub invariant-loop-cell : goal.invariant-loop-cell

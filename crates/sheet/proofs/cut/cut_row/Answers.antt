@@ -1,8 +1,6 @@
 -- `sheet::cut::cut_row` meets its contract: the short way by `row_three`, and any other row as `cut_fields` cuts it.
 -- Assumes nothing.
 use mathlib.Core.Path.{sym, ◌∙◌}
-use native.Mathlib.Omega.{arith}
-use borrow.Author.Tests.{not-false}
 use borrow.Author.Rules.{rules}
 use Rattle.sheet.proofs.Bare.{has_within, row_three}
 use Rattle.sheet.proofs.cut.cut_row.Goals as goal

@@ -1,6 +1,5 @@
 -- `sheet::cut::has_at` tells what `has_at` says: past the sheet's end there is no byte.
 -- Assumes nothing.
-use borrow.Author.Rules.{rules}
 use borrow.Author.Tests.{lt-ltb, le-ltb}
 use Rattle.sheet.specs.Bare.{has_at}
 use Rattle.sheet.proofs.cut.has_at.Goals as goal

@@ -1,6 +1,5 @@
 -- `sheet::cut::no_cells` meets its contract.
 -- Assumes nothing.
-use borrow.Author.Rules.{rules}
 use Rattle.sheet.proofs.cut.no_cells.Goals as goal
 
 pub returns : goal.returns

@@ -2,7 +2,6 @@
 -- Assumes nothing.
 use borrow.Author.Tests.{ne_eqb}
 use Rattle.grammar.specs.Cut.{pushed}
-use borrow.Author.Rules.{rules}
 use Rattle.sheet.proofs.cut.push.Goals as goal
 
 pub returns-in-0 : goal.returns-in-0

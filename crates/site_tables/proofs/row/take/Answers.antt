@@ -1,7 +1,6 @@
 -- `site_tables::row::take` meets its contract: the line decides.
 -- Assumes nothing.
 use Rattle.site_lines.specs.Draft.{take_line}
-use borrow.Author.Rules.{rules}
 use Rattle.site_tables.proofs.row.take.Goals as goal
 
 pub returns-in-Site : goal.returns-in-Site

@@ -2,10 +2,9 @@
 -- Assumes nothing.
 use mathlib.Core.Path.{sym, ◌∙◌}
 use native.Mathlib.Omega.{arith}
-use borrow.Author.Tests.{not-true, not-false, eq-eqb, ne_eqb}
+use borrow.Author.Tests.{eq-eqb, ne_eqb}
 use Rattle.site_lines.specs.Draft.{take_line, take_right}
 use Rattle.site_lines.proofs.Fits.{right_in}
-use borrow.Author.Rules.{rules}
 use Rattle.site_tables.proofs.row.take_right.Goals as goal
 
 pub returns-then-counts-eq0 : goal.returns-then-counts-eq0

@@ -1,9 +1,8 @@
 -- `site_tables::row::take_site` meets its contract.
 -- Assumes nothing.
 use mathlib.Core.Path.{sym, ◌∙◌}
-use borrow.Author.Tests.{not-true, not-false, eq-eqb, ne_eqb}
+use borrow.Author.Tests.{eq-eqb, ne_eqb}
 use Rattle.site_lines.specs.Draft.{take_line, take_site}
-use borrow.Author.Rules.{rules}
 use Rattle.site_tables.proofs.row.take_site.Goals as goal
 
 pub returns-then-not-site_fits : goal.returns-then-not-site_fits

@@ -1,9 +1,8 @@
 -- `put_bytes` meets its contract: each turn writes one byte more. Assumes nothing.
-use Prim.Native.Nat.{◌-◌}
 use native.Mathlib.Omega.{arith}
 use borrow.Author.Rules.{rules}
-use lib.ListN.{length, drop_of_length-le}
-use Rattle.text.proofs.Writing.{Still, begun, ended, still_more}
+use lib.ListN.{drop_of_length-le}
+use Rattle.text.proofs.Writing.{begun, ended, still_more}
 use Rattle.text.proofs.write.put_bytes.Goals as goal
 
 pub loop-i-init : goal.loop-i-init

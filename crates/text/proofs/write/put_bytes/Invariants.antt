@@ -1,9 +1,7 @@
 -- `put_bytes` meets its contract: each turn writes one byte more. Assumes nothing.
 use Prim.Native.Nat.{◌-◌}
-use native.Mathlib.Omega.{arith}
-use borrow.Author.Rules.{rules}
-use lib.ListN.{length, drop_of_length-le}
-use Rattle.text.proofs.Writing.{Still, begun, ended, still_more}
+use lib.ListN.{length}
+use Rattle.text.proofs.Writing.{Still}
 use Rattle.text.proofs.write.put_bytes.Given as goal
 
 abbrev pub invariant-loop-i : goal.invariant-loop-i

@@ -1,6 +1,5 @@
 -- `put_number` meets its contract: one digit, or as `put_long` puts it. Assumes nothing.
 use native.Mathlib.Omega.{arith}
-use borrow.Author.Rules.{rules}
 use Rattle.text.proofs.Decimal.{short_written}
 use Rattle.text.proofs.write.put_number.Goals as goal
 

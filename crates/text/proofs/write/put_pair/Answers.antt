@@ -1,7 +1,6 @@
 -- `put_pair` meets its contract: one digit behind the other. Assumes nothing.
 use mathlib.Core.Path.{refl}
 use native.Mathlib.Omega.{arith}
-use borrow.Author.Rules.{rules}
 use Rattle.text.specs.Text.{pair_of}
 use Rattle.text.proofs.Writing.{begun, more, last}
 use Rattle.text.proofs.write.put_pair.Goals as goal

@@ -1,6 +1,5 @@
 -- `Kind::allowed_in` tells what `asked` says: no beyond the table, and its entry within. Assumes nothing.
 use native.Mathlib.Omega.{arith}
-use borrow.Author.Rules.{rules}
 use borrow.Author.Tests.{lt-ltb, le-ltb}
 use Rattle.tables.specs.Tables.{and_also}
 use Rattle.phases.specs.Kinds.{number_of_kind}

@@ -1,5 +1,4 @@
 -- `Record::fresh` meets its contract: each list is zeros of its length. Assumes nothing.
-use borrow.Author.Rules.{rules}
 use Rattle.tables.specs.Zero.{zeros}
 use Rattle.record.proofs.record.Record.fresh.Goals as goal
 

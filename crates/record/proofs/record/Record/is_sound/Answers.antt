@@ -1,6 +1,5 @@
 -- `Record::is_sound` meets its contract: it lends its lists to the test. Assumes nothing.
 use Rattle.record.specs.SoundTest.{sound_b}
-use borrow.Author.Rules.{rules}
 use Rattle.record.proofs.record.Record.is_sound.Goals as goal
 
 pub returns : goal.returns

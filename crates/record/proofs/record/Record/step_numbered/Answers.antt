@@ -1,5 +1,4 @@
 -- `Record::step_numbered` meets its contract: the step that the number names. Assumes nothing.
-use borrow.Author.Rules.{rules}
 use Rattle.record.proofs.record.Record.step_numbered.Goals as goal
 
 pub returns : goal.returns
