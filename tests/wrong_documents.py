@@ -15,7 +15,7 @@ UNIQUE = "crates/record_answers/specs/Unique.antt"
 CODE = "crates/lists/src/lib.rt"
 DEFINITIONS = "crates/text/specs/Text.antt"
 EDIT = "crates/record/must-fail/fresh_everyone_inside.edit"
-FUNCTION = "pub fn %s(x: u8) -> u8\n    ensures { λ r. ⌜ r ≡ x ⌝ }\n{\n    x\n}\n"
+FUNCTION = "pub fn %s(x: u8) -> u8\n    ensures { result ≡ x }\n{\n    x\n}\n"
 # A name that nothing has, this file neither.
 NOWHERE = "_".join(("no", "such", "name"))
 
@@ -53,7 +53,7 @@ def wrong(what, check, path, old, new, fault):
 # ---- What is made wrong
 
 def try_fields():
-    walk, unique_walk = "StepTells r Walk d 0 (stepOf r Walk d 0)", "x ≡ stepOf r Walk d 0"
+    walk, unique_walk = "StepTells r Walk d 0 (step_of r Walk d 0)", "x ≡ step_of r Walk d 0"
     wrong("a function has no field in demand 1", check_fields, ANSWERS, f"  pub walk : (r : Record) (d : ℕ) → {walk}\n", "",
           "has a field for record::Record::walk (Answers)")
     wrong("a function has no field in unique answers", check_fields, UNIQUE, "  pub walk :", "  pub walked :",
@@ -69,8 +69,8 @@ def try_fields():
 
 def try_promises():
     wrong("a function has no promise", check_fields, CODE, "", "pub fn unheard(x: u8) -> u8 {\n    x\n}\n", "lists::unheard has no promise")
-    head = "pub fn read_sheet<'a>(name: &'a [u8], sheet: &'a mut [u8]) -> usize"
-    promise = "\n    ensures { λ r. ⌜ Counts r (now (sheet .exit)) ⌝ }\n{\n"
+    head = "pub fn read_sheet(rt: &(impl Files + Eprint), name: &str, sheet: &mut [u8]) -> usize"
+    promise = "\n    ensures { IsPrefixLen result sheet.new }\n{\n"
     wrong("a function that needs no field has no promise", check_fields, "crates/sheet_files/src/lib.rt", head + promise, head + " {\n",
           "sheet_files::read_sheet has no promise")
     wrong("a new function has no row", check_promises, CODE, "", FUNCTION % "unheard", "docs/PROMISES.md does not name lists::unheard")
@@ -82,14 +82,14 @@ def try_promises():
 
 def try_names():
     wrong("a comment of definitions names what isn't there", check_words, DEFINITIONS, "", f"-- `{NOWHERE}` says so\n", f"names {NOWHERE}")
-    wrong("a comment of code names what isn't in its crate or below", check_words, CODE, "", "// `cutRow` says so\n", "names cutRow")
+    wrong("a comment of code names what isn't in its crate or below", check_words, CODE, "", "// `cut_row` says so\n", "names cut_row")
     wrong("a comment names a function that its type doesn't have", check_words, CODE, "", "// `Record::lend` does so\n", "names Record::lend")
     wrong("a comment names a file that isn't there", check_words, CODE, "", "// specs/Nowhere.antt says so\n", "names specs/Nowhere.antt")
     wrong("a comment of a command names what isn't there", check_words, "bin/panel", "", f"# `{NOWHERE}` says so\n", f"names {NOWHERE}")
     wrong("a document names what isn't there", check_words, "docs/RULES.md", "", f"`{NOWHERE}` says so\n", f"names {NOWHERE}")
-    wrong("two definitions have one name", check_shared, DEFINITIONS, "", "abbrev pub mostPeople : ℕ\nmostPeople = 1\n",
-          f"mostPeople is defined in crates/tables/specs/Tables.antt and in {DEFINITIONS}")
-    wrong("two functions have one name", check_shared, CODE, "", FUNCTION % "cut_row", f"cut_row is defined in {CODE} and in")
+    wrong("two definitions have one name", check_shared, DEFINITIONS, "", "abbrev pub most_people : ℕ\nmost_people = 1\n",
+          f"most_people is defined in crates/tables/specs/Tables.antt and in {DEFINITIONS}")
+    wrong("two functions have one name", check_shared, CODE, "", FUNCTION % "put_row", f"put_row is defined in {CODE} and in")
 
 
 def left_out(folder, names):

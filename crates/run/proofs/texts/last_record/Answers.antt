@@ -2,7 +2,6 @@
 use mathlib.Core.Path.{sym, ◌∙◌}
 use Rattle.grammar.specs.Sizes.{limit}
 use Rattle.steps_sheet.proofs.Theorems.{headed_short}
-use borrow.Author.Rules.{rules}
 use Rattle.run.proofs.texts.last_record.Goals as goal
 
 pub record_after-requires : goal.record_after-requires

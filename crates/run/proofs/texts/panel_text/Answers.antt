@@ -2,7 +2,6 @@
 use mathlib.Core.Path.{refl}
 use Rattle.run_text.proofs.Sheets.{panel_refused, accepted_fresh_sound, panel_is}
 use Rattle.text.proofs.Printing.{text_is}
-use borrow.Author.Rules.{rules}
 use Rattle.run.proofs.texts.panel_text.Goals as goal
 
 pub returns-then-number-ne-DONE : goal.returns-then-number-ne-DONE

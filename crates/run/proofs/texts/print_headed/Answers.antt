@@ -4,7 +4,6 @@ use Rattle.run_text.specs.Printed.{steps_text}
 use Rattle.grammar.specs.Sizes.{limit}
 use Rattle.steps_sheet.proofs.Theorems.{headed_short}
 use Rattle.text.proofs.Printing.{text_is}
-use borrow.Author.Rules.{rules}
 use Rattle.run.proofs.texts.print_headed.Goals as goal
 
 pub print_steps-requires : goal.print_steps-requires

@@ -1,7 +1,6 @@
 -- `print_places` meets its contract: the text is measured, and written where it fits. Assumes nothing.
 use Rattle.text.proofs.Printing.{measured}
 use native.Mathlib.Omega.{arith}
-use borrow.Author.Rules.{rules}
 use Rattle.run.proofs.texts.print_places.Goals as goal
 
 pub returns-then-out-length : goal.returns-then-out-length

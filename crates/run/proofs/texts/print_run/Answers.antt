@@ -1,7 +1,6 @@
 -- `print_run` meets its contract: the text is written at once where it must fit; else it is measured, and written where it fits.
 -- Assumes nothing.
 use native.Mathlib.Omega.{arith}
-use borrow.Author.Rules.{rules}
 use Rattle.text.proofs.Printing.{at_once, measured}
 use Rattle.run.proofs.texts.print_run.Goals as goal
 

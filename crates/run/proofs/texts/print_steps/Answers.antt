@@ -1,15 +1,11 @@
 -- `print_steps` meets its contract: the steps are run, and their answers printed. Assumes nothing.
 use mathlib.Core.Path.{◌≡◌, sym, ap, ◌∙◌}
-use Prim.Native.Nat.{◌≤◌}
 use native.Mathlib.Omega.{arith}
-use lib.ListN.{length, take}
+use lib.ListN.{length}
 use lib.Seq.{length-take-le}
-use Rattle.record.specs.Run.{replies_of}
 use Rattle.run_text.specs.declared.serve.Served.{Served}
 use Rattle.steps_sheet.specs.Steps.{steps_from}
 use Rattle.steps_sheet.specs.Lent.{most_steps}
-use Rattle.run_text.specs.Printed.{replies_from, run_text, most_run_text}
-use Rattle.steps_sheet.specs.Says.{Steps}
 use Rattle.record.specs.Doors.{Shaped}
 use Rattle.record.proofs.Tells.{sound_tells}
 use Rattle.run_text.proofs.Serving.{heard}

@@ -3,7 +3,6 @@ use mathlib.Core.Path.{refl}
 use native.Mathlib.Omega.{arith}
 use Rattle.text.proofs.Writing.{begun, more, last}
 use Rattle.run_text.specs.Printed.{alone_text}
-use borrow.Author.Rules.{rules}
 use Rattle.run.proofs.texts.put_alone.Goals as goal
 
 pub returns : goal.returns

@@ -1,10 +1,7 @@
 -- `put_answers` meets its contract: each turn writes one row more. Assumes nothing.
 use Prim.Native.Nat.{◌-◌}
-use mathlib.Core.Path.{refl}
-use native.Mathlib.Omega.{arith}
-use borrow.Author.Rules.{rules}
 use lib.ListN.{length}
-use Rattle.run_text.proofs.Texts.{Answering, answer_start, answer_more, answer_end}
+use Rattle.run_text.proofs.Texts.{Answering}
 use Rattle.run.proofs.texts.put_answers.Given as goal
 
 abbrev pub invariant-loop-i : goal.invariant-loop-i

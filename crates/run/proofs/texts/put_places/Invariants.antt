@@ -1,12 +1,7 @@
 -- `put_places` meets its contract: the header, and each turn one row more. Assumes nothing.
 use Prim.Native.Nat.{◌-◌}
-use mathlib.Core.Path.{refl}
-use native.Mathlib.Omega.{arith}
-use borrow.Author.Rules.{rules}
 use lib.ListN.{length}
-use Rattle.text.proofs.Writing.{begun, more, last}
-use Rattle.run_text.specs.Printed.{places_text}
-use Rattle.run_text.proofs.Texts.{Placing, place_start, place_more, place_end}
+use Rattle.run_text.proofs.Texts.{Placing}
 use Rattle.run.proofs.texts.put_places.Given as goal
 
 abbrev pub invariant-loop-i : goal.invariant-loop-i

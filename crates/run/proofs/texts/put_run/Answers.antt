@@ -4,7 +4,6 @@ use native.Mathlib.Omega.{arith}
 use Rattle.text.proofs.Writing.{begun, more, last, said}
 use Rattle.run_text.specs.Printed.{replies_from}
 use Rattle.run_text.proofs.Texts.{run_whole, run_broken, from_length}
-use borrow.Author.Rules.{rules}
 use Rattle.run.proofs.texts.put_run.Goals as goal
 
 pub returns-then-whole : goal.returns-then-whole

@@ -2,7 +2,6 @@
 use mathlib.Core.Path.{ap}
 use native.Mathlib.Omega.{arith}
 use Rattle.run_text.specs.declared.serve.Served.{Served}
-use borrow.Author.Rules.{rules}
 use Rattle.run.proofs.texts.record_after.Goals as goal
 
 pub serve-served-requires : goal.serve-served-requires

@@ -3,7 +3,6 @@ use mathlib.Core.Path.{refl}
 use Rattle.steps_sheet.specs.Steps.{heading_of}
 use Rattle.run_text.proofs.Sheets.{where_refused, accepted_fresh_sound, last_few, where_is}
 use Rattle.text.proofs.Printing.{text_is}
-use borrow.Author.Rules.{rules}
 use Rattle.run.proofs.texts.where_text.Goals as goal
 
 pub returns-then-number-ne-DONE : goal.returns-then-number-ne-DONE

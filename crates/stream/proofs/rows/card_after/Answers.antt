@@ -1,8 +1,5 @@
 -- `card_after` meets its contract: a card is taken, the door is freed, or the card stays. Assumes nothing.
-use mathlib.Core.List.{[], ◌∷◌}
-use types.Run.{miss}
 use borrow.Author.Tests.{ne_eqb}
-use borrow.Author.Rules.{rules}
 use Rattle.stream_text.specs.Rows.{card_after}
 use Rattle.stream_text.proofs.Rows.{card_stays}
 use Rattle.stream.proofs.rows.card_after.Goals as goal

@@ -1,6 +1,5 @@
 -- `put_decided` meets its contract: the frame is a grant's or a denial's, by the door's phase. Assumes nothing.
 use mathlib.Core.Path.{ap}
-use borrow.Author.Rules.{rules}
 use Rattle.text.proofs.Writing.{said}
 use Rattle.syslog.specs.Line.{framed_of}
 use Rattle.stream_text.proofs.Rows.{decided_granted, decided_denied}

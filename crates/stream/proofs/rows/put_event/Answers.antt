@@ -1,5 +1,4 @@
 -- `put_event` meets its contract: the frame with the person whose card is at the door, and then that card. Assumes nothing.
-use borrow.Author.Rules.{rules}
 use Rattle.stream.proofs.rows.put_event.Goals as goal
 
 pub returns : goal.returns

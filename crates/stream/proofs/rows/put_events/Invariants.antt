@@ -1,10 +1,7 @@
 -- `put_events` meets its contract: each turn writes what one step writes, and keeps the card of its door. Assumes nothing.
 use Prim.Native.Nat.{◌-◌}
-use mathlib.Core.Path.{refl}
-use native.Mathlib.Omega.{arith}
-use borrow.Author.Rules.{rules}
 use lib.ListN.{length}
-use Rattle.stream_text.proofs.Rows.{Eventing, events_start, events_more, events_end}
+use Rattle.stream_text.proofs.Rows.{Eventing}
 use Rattle.stream.proofs.rows.put_events.Given as goal
 
 abbrev pub invariant-loop-i : goal.invariant-loop-i

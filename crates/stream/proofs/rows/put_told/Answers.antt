@@ -1,8 +1,5 @@
 -- `put_told` meets its contract: a step that was done writes the frame of its event, if it has one. Assumes nothing.
-use Prim.Native.Nat.{ℕ}
-use mathlib.Core.List.{List, [], ◌∷◌}
 use native.Mathlib.Omega.{arith}
-use borrow.Author.Rules.{rules}
 use Rattle.text.proofs.Writing.{said}
 use Rattle.stream_text.proofs.Rows.{nothing_written, told_refused, told_nothing, told_decided, told_passed, told_lapsed}
 use Rattle.stream.proofs.rows.put_told.Goals as goal

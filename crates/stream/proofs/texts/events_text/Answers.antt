@@ -3,7 +3,6 @@ use mathlib.Core.Path.{refl}
 use Rattle.run_text.proofs.Sheets.{accepted_fresh_sound}
 use Rattle.text.proofs.Printing.{text_is}
 use Rattle.stream_text.proofs.Sheets.{nothing_printed, stream_refused, stream_is}
-use borrow.Author.Rules.{rules}
 use Rattle.stream.proofs.texts.events_text.Goals as goal
 
 pub returns-then-number-ne-DONE : goal.returns-then-number-ne-DONE

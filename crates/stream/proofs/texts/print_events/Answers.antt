@@ -1,7 +1,6 @@
 -- `print_events` meets its contract: the stream is measured, and written where it fits. Assumes nothing.
 use Rattle.text.proofs.Printing.{measured}
 use native.Mathlib.Omega.{arith}
-use borrow.Author.Rules.{rules}
 use Rattle.stream.proofs.texts.print_events.Goals as goal
 
 pub returns-then-out-length : goal.returns-then-out-length

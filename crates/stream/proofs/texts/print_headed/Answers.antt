@@ -7,7 +7,6 @@ use Rattle.text.proofs.Printing.{text_is}
 use Rattle.syslog.specs.Line.{stream_of}
 use Rattle.stream_text.specs.Stream.{steps_events}
 use Rattle.stream_text.proofs.Sheets.{nothing_printed, long_stream, wrong_stream}
-use borrow.Author.Rules.{rules}
 use Rattle.stream.proofs.texts.print_headed.Goals as goal
 
 pub print_steps-requires : goal.print_steps-requires
