@@ -2,6 +2,7 @@
 // arguments name, or site.csv and steps.csv of the folder that it is run in. The stream is proved in the crate `stream`; here is only
 // reading and writing.
 #![tactic(auto)]
+
 use blank_lists::blank_sheet;
 use findings::Printed;
 use program_io::write_text;

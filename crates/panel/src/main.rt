@@ -2,6 +2,7 @@
 // its arguments name, or site.csv and steps.csv of the folder that it is run in. The text is proved in the crate `run`; here is only
 // reading and writing.
 #![tactic(auto)]
+
 use blank_lists::{blank_panel_text, blank_sheet};
 use findings::Printed;
 use program_io::write_text;

@@ -1,6 +1,7 @@
 // `read_events`: reads a syslog stream from standard input and writes its events as rows. The text is proved in the crate
 // `stream_rows`; here is only reading and writing.
 #![tactic(auto)]
+
 use findings::Printed;
 use program_io::write_text;
 use sheet_files::read_input;
