@@ -2,6 +2,7 @@
 // with a second argument it does so many steps on the record lent instead, a tick at one door after the other. It
 // writes how many tests said sound, or how many steps were done. bench/run counts its instructions.
 #![tactic(auto)]
+
 ghost use Rattle.std.specs.Prelude.{◌≤◌};
 
 use blank_lists::blank_sheet;

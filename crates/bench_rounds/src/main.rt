@@ -1,6 +1,7 @@
 // `bench_rounds`: does what `panel` does, as many times over as its argument says (once without one), and writes the last text.
 // bench/run times it.
 #![tactic(auto)]
+
 use blank_lists::{blank_panel_text, blank_sheet};
 use findings::Printed;
 use program_io::{number_asked, write_text};
