@@ -17,12 +17,11 @@ use incoming::{Held, part, read_behind, row_in, to_front};
 use numbers::Paper;
 use record::record::Record;
 use say::{Events, say_header, say_refused};
-use sheet_files::{fail, read_asked};
+use sheet_files::{fail, name_in, read_asked};
 use site::read_site;
 use std::env::{Env, FillError};
 use std::fs::{Files, OpenOptions};
 use std::io::{Error, ErrorKind, Input, Read, Result, Write};
-use std::str;
 use stream::rows::no_cards;
 
 // So many bytes that have come are held at most; a longer row is of bad form.
@@ -31,10 +30,8 @@ const MOST_HELD: usize = 4096;
 // So many bytes of an argument are looked at.
 const MOST_NAME: usize = 4096;
 
-// The system's numbers for a name that is too long, and for one that is no text.
+// The system's number for a name that is too long.
 const TOO_LONG: i32 = 36;
-
-const NO_TEXT: i32 = 84;
 
 // The last row, which may do without its CRLF. Where no bytes are left there is none; but a sheet without any has a wrong header.
 fn answer_last<F: Write>(
@@ -152,8 +149,7 @@ fn answer_all<F: Write + Drop>(
 
 // The same, with an events' file by the bytes of its name. Where it can't be opened nothing is answered.
 fn answer_with_events<R: Files + Input + Print + Eprint>(rt: &R, record: Record, name: &[u8]) {
-    let Ok(name) = str::from_utf8(name) else {
-        fail(rt, name.escape_ascii(), Error::from_raw_os_error(NO_TEXT));
+    let Some(name) = name_in(rt, name) else {
         return;
     };
     match open_events(rt, name) {

@@ -3,6 +3,7 @@
 
 mod fault;
 
+ghost use Rattle.std.specs.Prelude.{◌≡◌, IfSome};
 ghost use Rattle.io.specs.Counts.{IsPrefixLen};
 
 pub use fault::fail;
@@ -99,11 +100,21 @@ pub fn read_asked(
 fn read_named(rt: &(impl Files + Eprint), name: &[u8], sheet: &mut [u8]) -> usize
     ensures { IsPrefixLen result sheet.new }
 {
+    match name_in(rt, name) {
+        Some(text) => read_sheet(rt, text, sheet),
+        None => 0,
+    }
+}
+
+// A file's name as text. One that is no text is named on standard error: no file can be opened by it.
+pub fn name_in<'a>(rt: &impl Eprint, name: &'a [u8]) -> Option<&'a str>
+    ensures { IfSome result (λ text. text.now ≡ name.now) }
+{
     match str::from_utf8(name) {
-        Ok(text) => read_sheet(rt, text, sheet),
+        Ok(text) => Some(text),
         Err(_) => {
             fail(rt, name.escape_ascii(), Error::from_raw_os_error(NO_TEXT));
-            0
+            None
         }
     }
 }

@@ -77,6 +77,7 @@ fn write_short<'a>(rt: &impl Print, text: Text, site: &'a [u8], steps: &'a [u8],
     }
 }
 
+// Whether two lists hold the same bytes.
 fn is_same(one: &[u8], other: &[u8]) -> bool {
     one == other
 }
