@@ -47,12 +47,13 @@ def runnable(program):
 
 
 def rattle_program(name):
-    """A proved program; rt proves it anew where a source of it was changed."""
+    """A proved program; rt proves it anew where a source of it was changed. rt then runs it too, on no sheets and no input."""
     toolchain()
-    program = os.path.join(ROOT, "target", "bin", name)
-    proved = subprocess.run(["rt", "check", name], cwd=ROOT, stdout=sys.stderr, check=False)
+    crate = os.path.join(ROOT, "crates", name)
+    program = os.path.join(crate, "out", name)
+    proved = subprocess.run(["rt", "run"], cwd=crate, stdin=subprocess.DEVNULL, stdout=subprocess.DEVNULL, check=False)
     if proved.returncode != 0 or not os.path.exists(program):
-        fail(f"rt check {name} built no proved program")
+        fail(f"rt run built no proved program {name}")
     return runnable(program)
 
 

@@ -25,69 +25,88 @@ need_kit() {
 
 # ---- Building
 
-# The crates that a program is built from, itself among them, one to a line.
+# The crates that a program is built from, itself among them, one to a line: those that a crate stands on come before it.
 crates_of() { # PROGRAM
     awk -v wanted="$1" '
         function visit(name, on, n, i) {
             if (!(name in below) || name in seen) return
             seen[name] = 1
-            print name
             n = split(below[name], on, " ")
             for (i = 1; i <= n; i++) visit(on[i])
+            print name
         }
         { sub(/#.*/, "") }
         /:/ { split($0, half, ":"); gsub(/[ \t]/, "", half[1]); below[half[1]] = half[2] }
         END { visit(wanted) }' "$root/crates.txt"
 }
 
-# Whether rt has proved, built and run a program: its stamp says so.
-is_proved() { # PROGRAM
-    [ -x "$root/target/bin/$1" ] && [ -f "$root/target/stamp/$1" ]
-}
-
-# The same, and none of its sources is newer, or gone (find says so).
+# Whether a program was proved and built, and none of its sources is newer, or gone (find says so). What rt keeps of a crate in its
+# folder out/ is no source.
 is_built() { # PROGRAM CRATES
-    is_proved "$1" || return 1
+    [ -x "$root/target/bin/$1" ] || return 1
     newer=$(
         find "$root/crates.txt" -newer "$root/target/bin/$1" 2>&1
         for crate in $2; do
-            find "$root/crates/$crate" -newer "$root/target/bin/$1" 2>&1
+            find "$root/crates/$crate" -type d -name out -prune -o -newer "$root/target/bin/$1" -print 2>&1
         done
     )
     [ -z "$newer" ]
 }
 
-# Says of each crate that it is proved and how many are left; the whole of what rt says goes to a log. True if rt ended with
-# "ok": it says that only when all is proved and run.
-progress() { # LOG LEFT
-    left=$2 is_ok=false
-    while IFS= read -r line; do
-        printf '%s\n' "$line" >>"$1"
-        crate=${line#rt: }
-        case $line in
-        'rt: ok, '*) is_ok=true ;;
-        'rt: '*' NOT PROVED'*) say "$crate" ;;
-        'rt: '*' proved ('*)
-            left=$((left - 1))
-            say "${crate%% *} is proved, $left left"
-            ;;
-        esac
+# Says of a crate that it is proved, and before it of those that it stands on, and how many are left. rt says nothing of a library
+# that was proved earlier and hasn't changed.
+say_proved() { # CRATE
+    for each in $(crates_of "$1"); do
+        case $told in *" $each "*) continue ;; esac
+        told="$told$each " left=$((left - 1))
+        say "$each is proved, $left left"
     done
-    "$is_ok"
 }
 
-# Proves and builds a program, which rt leaves in target/bin; it counts as old as the moment when that began. When rt fails, the
-# program of before stays older than its sources, and isn't run. What stands on standard input is the program's, and not for rt.
+# Says of each crate that it is proved and how many are left; the whole of what rt says goes to a log. True if the last line is
+# DONE: it comes only when all is proved and the program was run.
+DONE="the program was proved, built and run"
+progress() { # LOG PROGRAM LEFT
+    left=$3 told=' ' crate=$2 is_done=false
+    while IFS= read -r line; do
+        printf '%s\n' "$line" >>"$1"
+        is_done=false
+        case $line in
+        'crate '*': '*)
+            crate=${line#crate }
+            crate=${crate%%:*}
+            ;;
+        'logic=proved '*) say_proved "$crate" ;;
+        'logic=not-proved'*) say "$crate NOT PROVED" ;;
+        "$DONE") is_done=true ;;
+        esac
+    done
+    ! "$is_done" || say_proved "$2"
+    "$is_done"
+}
+
+# Lets rt prove and build a program, which it then also runs, in the folder of its crate and on no input: what it prints there
+# is nothing. What stands on standard input is the program's, and not for rt.
+prove_and_build() { # PROGRAM
+    { cd "$root/crates/$1" && rt run </dev/null >/dev/null; } 2>&1 && echo "$DONE"
+}
+
+# Proves and builds a program, which is put into target/bin; it counts as old as the moment when that began. When rt fails, the
+# program of before stays older than its sources, and isn't run.
 build() { # PROGRAM CRATES
     need_kit
-    log=$root/target/log/$1.build
-    { mkdir -p "$root/target/log" && : >"$log" && : >"$log.begun"; } || fail "nothing can be built in $root/target"
+    log=$root/target/log/$1.build program=$root/target/bin/$1
+    { mkdir -p "$root/target/bin" "$root/target/log" && : >"$log"; } || fail "nothing can be built in $root/target"
     count=$(printf '%s\n' "$2" | wc -l)
     say "the program $1 is proved and built anew, from $((count)) crates; what rt says is in $log"
-    [ -x "$root/target/bin/$1" ] || rm -f "$root/target/stamp/$1" # else rt takes a program that is gone for proved and built
-    (cd "$root" && rt check "$1" </dev/null) 2>&1 | progress "$log" "$count" && is_proved "$1" ||
+    for crate in $2; do # made now, so that the crates' folders don't get newer than the program
+        [ ! -d "$root/crates/$crate" ] || mkdir -p "$root/crates/$crate/out"
+    done
+    : >"$log.begun"
+    prove_and_build "$1" | progress "$log" "$1" "$count" && cp "$root/crates/$1/out/$1" "$program.new" ||
         fail "there is no proved program $1: $(tail -n 1 "$log"); what else rt said is in $log"
-    touch -r "$log.begun" "$root/target/bin/$1"
+    touch -r "$log.begun" "$program.new"
+    mv -f "$program.new" "$program"
 }
 
 # ---- Running

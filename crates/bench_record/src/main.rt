@@ -2,11 +2,11 @@
 // with a second argument it does so many steps on the record lent instead, a tick at one door after the other. It
 // writes how many tests said sound, or how many steps were done. bench/run counts its instructions.
 #![tactic(auto)]
+
 ghost use Rattle.std.specs.Prelude.{◌≤◌};
 
 use blank_lists::blank_sheet;
 use lending::lend;
-use libc::STDOUT_FILENO;
 use numbers::Paper;
 use phases::phase::Phase;
 use phases::table::Kind;
@@ -14,18 +14,20 @@ use program_io::number_asked;
 use record::record::Record;
 use sheet_files::read_sheet;
 use site::read_site;
+use std::env::Env;
 use tables::MOST_DOORS;
+
+// So many bytes of an argument are looked at.
+const MOST_WORD: usize = 4096;
 
 // The record with a grant at each door, of the person who has the door's number, who stands where it starts.
 fn with_grants(mut record: Record) -> Record {
-    let mut door = 0;
-    while door < MOST_DOORS {
+    for door in 0..MOST_DOORS {
         if door < record.doors {
             record.place[door] = record.origin[door];
             record.phase[door] = Phase::GRANTED;
             record.holder[door] = door as u16;
         }
-        door += 1;
     }
     record
 }
@@ -43,10 +45,8 @@ fn counted(so: bool) -> u64
 // How many of so many tests say that the record is sound.
 fn tests_passed(rounds: usize, record: Record) -> u64 {
     let mut passed = 0;
-    let mut n = 0;
-    while n < rounds {
+    for _ in 0..rounds {
         passed += counted(record.is_sound());
-        n += 1;
     }
     passed
 }
@@ -54,27 +54,31 @@ fn tests_passed(rounds: usize, record: Record) -> u64 {
 // How many of so many steps on the record are done, each at the next door.
 fn steps_done(rounds: usize, mut record: Record) -> u64 {
     let mut done = 0;
-    let mut n = 0;
-    while n < rounds {
+    for n in 0..rounds {
         let step = lend(record, Kind::Tick, n % MOST_DOORS, 0);
         record = step.next;
         let answer = step.answer;
         done += counted(answer.number() == Paper::DONE);
-        n += 1;
     }
     done
 }
 
-fn main() {
+// How many bytes the program's second argument has; 0 without one.
+fn second_word(rt: &impl Env) -> usize {
+    let mut word = [0u8; MOST_WORD];
+    rt.arg(2, &mut word).unwrap_or(0)
+}
+
+fn main(rt: HostRuntime) {
     let mut sheet = blank_sheet();
-    let length = read_sheet(b"site.csv", &mut sheet);
+    let length = read_sheet(&rt, "site.csv", &mut sheet);
     let site = read_site(&sheet[..length]);
     let record = with_grants(site.record);
-    let rounds = number_asked(1);
-    let mut word = io::buffer();
-    if os::arg(2, &mut word) == 0 {
-        io::print_decimal(STDOUT_FILENO, tests_passed(rounds, record));
+    let rounds = number_asked(&rt, 1);
+    let done = if second_word(&rt) == 0 {
+        tests_passed(rounds, record)
     } else {
-        io::print_decimal(STDOUT_FILENO, steps_done(rounds, record));
-    }
+        steps_done(rounds, record)
+    };
+    let _ = rt.print(done);
 }

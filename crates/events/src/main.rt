@@ -2,6 +2,7 @@
 // arguments name, or site.csv and steps.csv of the folder that it is run in. The stream is proved in the crate `stream`; here is only
 // reading and writing.
 #![tactic(auto)]
+
 use blank_lists::blank_sheet;
 use findings::Printed;
 use program_io::write_text;
@@ -9,13 +10,13 @@ use sheet_files::read_asked;
 use stream::texts::events_text;
 use stream_lists::blank_events_text;
 
-fn main() {
+fn main(rt: HostRuntime) {
     let mut site = blank_sheet();
     let mut steps = blank_sheet();
     let mut out = blank_events_text();
-    let in_site = read_asked(1, b"site.csv", &mut site);
-    let in_steps = read_asked(2, b"steps.csv", &mut steps);
+    let in_site = read_asked(&rt, 1, "site.csv", &mut site);
+    let in_steps = read_asked(&rt, 2, "steps.csv", &mut steps);
     if let Printed::Text(length) = events_text(&site[..in_site], &steps[..in_steps], &mut out) {
-        write_text(&out, length);
+        write_text(&rt, &out, length);
     }
 }

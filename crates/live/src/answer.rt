@@ -1,6 +1,6 @@
 // One row of the steps sheet, answered on the record.
 use crate::incoming::part;
-use crate::say::{ROOM, say, say_refused, tell};
+use crate::say::{Events, ROOM, say, say_refused, tell};
 use attend::attend_once;
 use cells::say::says_words;
 use grammar::cut::RowCut;
@@ -8,6 +8,7 @@ use numbers::Paper;
 use phases::table::Kind;
 use reader::row_at;
 use record::record::Record;
+use std::io::Write;
 
 // What is known from turn to turn: the record, the number of the row that comes next, 0 for the header, where the bytes that aren't
 // answered yet lie in the list that holds them, and whether all is over.
@@ -36,7 +37,7 @@ pub(crate) fn over(state: State) -> State {
 fn onward(state: State, record: Record, from: usize) -> State {
     State {
         record,
-        number: std::num::wrapping_add_usize(state.number, 1),
+        number: state.number.wrapping_add(1),
         from,
         end: state.end,
         is_over: false,
@@ -52,32 +53,32 @@ fn is_header(row: &[u8]) -> bool {
 }
 
 // The header, which is answered only where it is wrong.
-fn answer_header(state: State, row: &[u8], next: usize) -> State {
+fn answer_header(rt: &(impl Print + Eprint), state: State, row: &[u8], next: usize) -> State {
     if is_header(row) {
         let record = state.record;
         return onward(state, record, next);
     }
-    say_refused(Paper::BAD_FORM);
+    say_refused(rt, Paper::BAD_FORM);
     over(state)
 }
 
 // A step: its event is told before its row is printed. A row of bad form is the last, and so is one that can't be told or printed.
-fn answer_step(
+fn answer_step<F: Write>(
+    rt: &(impl Print + Eprint),
     state: State,
     row: &[u8],
     next: usize,
     cards: &mut [u16],
-    file: i32,
-    name: &[u8],
+    events: &mut Option<Events<'_, F>>,
 ) -> State {
     let mut text = [0; ROOM];
     let record = state.record;
     let turn = attend_once(record, row, state.number, &mut text);
     let attended = turn.attended;
-    if !tell(cards, attended, file, name) {
+    if !tell(rt, cards, attended, events) {
         return over(state);
     }
-    if !say(part(&text, 0, attended.length)) {
+    if !say(rt, part(&text, 0, attended.length)) {
         return over(state);
     }
     let asked = attended.asked;
@@ -90,16 +91,16 @@ fn answer_step(
 }
 
 // A row, the header or a step; the one behind it begins at this place of the list that holds them.
-pub(crate) fn answer(
+pub(crate) fn answer<F: Write>(
+    rt: &(impl Print + Eprint),
     state: State,
     row: &[u8],
     next: usize,
     cards: &mut [u16],
-    file: i32,
-    name: &[u8],
+    events: &mut Option<Events<'_, F>>,
 ) -> State {
     if state.number == 0 {
-        return answer_header(state, row, next);
+        return answer_header(rt, state, row, next);
     }
-    answer_step(state, row, next, cards, file, name)
+    answer_step(rt, state, row, next, cards, events)
 }

@@ -2,6 +2,7 @@
 use grammar::cut::RowCut;
 use lists::{byte_at, put_byte};
 use reader::row_at;
+use std::io::{Read, Result};
 
 const LF: u8 = 10;
 
@@ -58,22 +59,18 @@ pub(crate) fn row_in(bytes: &[u8], from: usize) -> Held {
 
 // Moves the bytes from one place up to another to the front of the list, and tells how many.
 pub(crate) fn to_front(list: &mut [u8], from: usize, end: usize) -> usize {
-    let mut count = 0;
-    let mut at = from;
-    while at < end {
+    for at in from..end {
         let byte = byte_at(list, at);
-        put_byte(list, count, byte);
-        count += 1;
-        at += 1;
+        put_byte(list, at - from, byte);
     }
-    count
+    end.saturating_sub(from)
 }
 
 // Reads what there is on standard input into the list, from a place on, and waits where there is nothing yet. Tells how many bytes were
-// read: 0 at the end of the input, or where the list has no room, and less than 0 where the read failed.
-pub(crate) fn read_behind(list: &mut [u8], from: usize) -> isize {
+// read: 0 at the end of the input, or where the list has no room.
+pub(crate) fn read_behind(input: &mut impl Read, list: &mut [u8], from: usize) -> Result<usize> {
     if from < list.len() {
-        return libc::read(libc::STDIN_FILENO, &mut list[from..]);
+        return input.read(&mut list[from..]);
     }
-    0
+    Ok(0)
 }

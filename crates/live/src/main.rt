@@ -6,6 +6,7 @@
 //
 // `incoming` finds the rows in the bytes that have come; `answer` answers one; `say` writes; here are the loop and what comes before it.
 #![tactic(auto)]
+
 mod answer;
 mod incoming;
 mod say;
@@ -15,123 +16,171 @@ use blank_lists::blank_sheet;
 use incoming::{Held, part, read_behind, row_in, to_front};
 use numbers::Paper;
 use record::record::Record;
-use say::{NO_FILE, say_header, say_refused};
-use sheet_files::read_asked;
+use say::{Events, say_header, say_refused};
+use sheet_files::{fail, name_in, read_asked};
 use site::read_site;
+use std::env::{Env, FillError};
+use std::fs::{Files, OpenOptions};
+use std::io::{Error, ErrorKind, Input, Read, Result, Write};
 use stream::rows::no_cards;
 
-// The loop takes at most so many turns, one for each row and each read: 2^64 - 1. At a turn each nanosecond they last for more than five
-// centuries, so nobody meets their end.
-const MOST_TURNS: usize = 18446744073709551615;
+// So many bytes that have come are held at most; a longer row is of bad form.
+const MOST_HELD: usize = 4096;
+
+// So many bytes of an argument are looked at.
+const MOST_NAME: usize = 4096;
+
+// The system's number for a name that is too long.
+const TOO_LONG: i32 = 36;
 
 // The last row, which may do without its CRLF. Where no bytes are left there is none; but a sheet without any has a wrong header.
-fn answer_last(state: State, row: &[u8], cards: &mut [u16], file: i32, name: &[u8]) -> State {
+fn answer_last<F: Write>(
+    rt: &(impl Print + Eprint),
+    state: State,
+    row: &[u8],
+    cards: &mut [u16],
+    events: &mut Option<Events<'_, F>>,
+) -> State {
     if row.len() == 0 && state.number > 0 {
         return over(state);
     }
-    over(answer(state, row, 0, cards, file, name))
+    over(answer(rt, state, row, 0, cards, events))
 }
 
 // Reads on, behind the bytes held. Where nothing more comes they are the last row. They are that too where they leave no room for more:
 // such a row is of bad form, since no step's is so long.
-fn read_on(state: State, held: &mut [u8], cards: &mut [u16], file: i32, name: &[u8]) -> State {
+fn read_on<F: Write>(
+    rt: &(impl Print + Eprint),
+    state: State,
+    input: &mut impl Read,
+    held: &mut [u8],
+    cards: &mut [u16],
+    events: &mut Option<Events<'_, F>>,
+) -> State {
     let end = to_front(held, state.from, state.end);
-    let got = read_behind(held, end);
-    if got < 0 {
-        os::fail(b"standard input");
-        return over(state);
-    }
-    if got == 0 {
-        return answer_last(state, part(held, 0, end), cards, file, name);
-    }
-    let record = state.record;
-    State {
-        record,
-        number: state.number,
-        from: 0,
-        end: std::num::wrapping_add_usize(end, io::count(got, held)),
-        is_over: false,
+    match read_behind(input, held, end) {
+        Ok(0) => answer_last(rt, state, part(held, 0, end), cards, events),
+        Ok(count) => {
+            let record = state.record;
+            State {
+                record,
+                number: state.number,
+                from: 0,
+                end: end.wrapping_add(count),
+                is_over: false,
+            }
+        }
+        Err(error) => {
+            fail(rt, "standard input", error);
+            over(state)
+        }
     }
 }
 
 // One turn: a row is answered, or more is read.
-fn turn(state: State, held: &mut [u8], cards: &mut [u16], file: i32, name: &[u8]) -> State {
+fn turn<F: Write>(
+    rt: &(impl Print + Eprint),
+    state: State,
+    input: &mut impl Read,
+    held: &mut [u8],
+    cards: &mut [u16],
+    events: &mut Option<Events<'_, F>>,
+) -> State {
     let from = state.from;
     let end = state.end;
     match row_in(part(held, 0, end), from) {
-        Held::Row(next) => answer(state, part(held, from, next), next, cards, file, name),
-        Held::Part => read_on(state, held, cards, file, name),
+        Held::Row(next) => answer(rt, state, part(held, from, next), next, cards, events),
+        Held::Part => read_on(rt, state, input, held, cards, events),
     }
+}
+
+// Opens a file to append to, which is there.
+fn open_to_append<R: Files>(rt: &R, name: &str) -> Result<R::File> {
+    OpenOptions::new().append(true).open(rt, name)
+}
+
+// Makes a file that isn't there.
+fn make<R: Files>(rt: &R, name: &str) -> Result<()> {
+    let _made = OpenOptions::new()
+        .write(true)
+        .create_new(true)
+        .open(rt, name)?;
+    Ok(())
 }
 
 // Opens a file to append to, and makes it first where there is none.
-fn open_events(name: &[u8]) -> i32 {
-    let file = os::open_append(name);
-    if file >= 0 || os::errno() != libc::ENOENT {
-        return file;
+fn open_events<R: Files>(rt: &R, name: &str) -> Result<R::File> {
+    match open_to_append(rt, name) {
+        Ok(file) => Ok(file),
+        Err(error) => {
+            if error.kind() != ErrorKind::NotFound {
+                return Err(error);
+            }
+            make(rt, name)?;
+            open_to_append(rt, name)
+        }
     }
-    let made = os::create(name);
-    if made < 0 {
-        return made;
-    }
-    libc::close(made);
-    os::open_append(name)
 }
 
-// Prints the header and answers the rows that come, from a fresh record on.
-fn answer_all(record: Record, file: i32, name: &[u8]) {
-    let mut held = io::buffer();
+// Prints the header and answers the rows that come, from a fresh record on. The loop takes at most 2^64 - 1 turns, one for each row and
+// each read: at a turn each nanosecond they last for more than five centuries, so nobody meets their end.
+fn answer_all<F: Write + Drop>(
+    rt: &(impl Input + Print + Eprint),
+    record: Record,
+    mut events: Option<Events<'_, F>>,
+) {
+    let mut input = rt.reader();
+    let mut held = [0u8; MOST_HELD];
     let mut cards = no_cards();
     let mut state = State {
         record,
         number: 0,
         from: 0,
         end: 0,
-        is_over: !say_header(),
+        is_over: !say_header(rt),
     };
-    let mut left = MOST_TURNS;
-    while left > 0 {
+    for _ in 0..u64::MAX {
         if state.is_over {
             return;
         }
-        state = turn(state, &mut held, &mut cards, file, name);
-        left -= 1;
+        state = turn(rt, state, &mut input, &mut held, &mut cards, &mut events);
     }
 }
 
-// The same, with the events' file if the program is given one. Where it can't be opened nothing is answered.
-fn answer_asked(record: Record) {
-    let mut name = io::buffer();
-    let length = os::arg(2, &mut name);
-    let error = os::errno();
-    if error == libc::EINVAL {
-        answer_all(record, NO_FILE, b"");
+// The same, with an events' file by the bytes of its name. Where it can't be opened nothing is answered.
+fn answer_with_events<R: Files + Input + Print + Eprint>(rt: &R, record: Record, name: &[u8]) {
+    let Some(name) = name_in(rt, name) else {
         return;
+    };
+    match open_events(rt, name) {
+        Ok(file) => answer_all(rt, record, Some(Events { file, name })),
+        Err(error) => fail(rt, name, error),
     }
-    if error != 0 {
-        os::fail(b"the events' file");
-        return;
-    }
-    let file = open_events(&name[..length]);
-    if file < 0 {
-        os::fail(&name[..length]);
-        return;
-    }
-    answer_all(record, file, &name[..length]);
-    libc::close(file);
 }
 
-fn main() {
+// The same, with the events' file if the program is given one.
+fn answer_asked<R: Files + Env + Input + Print + Eprint>(rt: &R, record: Record) {
+    let mut name = [0u8; MOST_NAME];
+    match rt.arg(2, &mut name) {
+        Ok(length) => answer_with_events(rt, record, &name[..length]),
+        Err(FillError::TooLong) => {
+            fail(rt, "the events' file", Error::from_raw_os_error(TOO_LONG));
+        }
+        Err(FillError::NotPresent) => answer_all(rt, record, None::<Events<'_, R::File>>),
+    }
+}
+
+fn main(rt: HostRuntime) {
     let mut site = blank_sheet();
-    let in_site = read_asked(1, b"site.csv", &mut site);
+    let in_site = read_asked(&rt, 1, "site.csv", &mut site);
     let read = read_site(&site[..in_site]);
     let verdict = read.verdict;
     let number = verdict.number();
     if number != Paper::DONE {
-        if say_header() {
-            say_refused(number);
+        if say_header(&rt) {
+            say_refused(&rt, number);
         }
         return;
     }
-    answer_asked(read.record);
+    answer_asked(&rt, read.record);
 }

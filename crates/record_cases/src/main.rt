@@ -7,6 +7,7 @@
 // and by the method of that name, whose record is kept. `short` runs a step with no room in one list, by the list's number.
 // `sound`, `where`, `granted`, `way` and `sole` ask.
 #![tactic(auto)]
+
 mod ask;
 mod put;
 mod step;
@@ -21,25 +22,38 @@ use reader::row_at;
 use record::record::Record;
 use sheet_files::read_sheet;
 use site::read_site;
+use std::fs::Files;
 use step::do_step;
 use words::{PEOPLE, SITE, SOUND, word_number};
 use write::{number_or_0, write_end, write_next, write_row};
 
+// The sheets of sites, by the last digit of their numbers.
+const SITES: [&str; 10] = [
+    "0-site.csv",
+    "1-site.csv",
+    "2-site.csv",
+    "3-site.csv",
+    "4-site.csv",
+    "5-site.csv",
+    "6-site.csv",
+    "7-site.csv",
+    "8-site.csv",
+    "9-site.csv",
+];
+
 // The fresh record of a site sheet, or the blank one of a refused sheet.
-fn take_site(n: usize) -> Record {
-    let mut name = *b"0-site.csv";
-    name[0] = b'0' + (n % 10) as u8;
+fn take_site(rt: &(impl Files + Print + Eprint), n: usize) -> Record {
     let mut sheet = blank_sheet();
-    let length = read_sheet(&name, &mut sheet);
+    let length = read_sheet(rt, SITES[n % 10], &mut sheet);
     let answer = read_site(&sheet[..length]);
     let verdict = answer.verdict;
-    write_next(verdict.number() as u64);
+    write_next(rt, verdict.number() as u64);
     answer.record
 }
 
 // Prints a row and does what it says.
-fn take_row(s: &[u8], cells: Cells, record: Record) -> Record {
-    write_row(s, cells);
+fn take_row(rt: &(impl Files + Print + Eprint), s: &[u8], cells: Cells, record: Record) -> Record {
+    write_row(rt, s, cells);
     let first = cells.first;
     let second = cells.second;
     let third = cells.third;
@@ -47,37 +61,35 @@ fn take_row(s: &[u8], cells: Cells, record: Record) -> Record {
     let b = number_or_0(s, third);
     let word = word_number(s, first);
     if word < SITE {
-        return do_step(word, a, b, record);
+        return do_step(rt, word, a, b, record);
     }
     if word < SOUND {
-        return take_site(a);
+        return take_site(rt, a);
     }
     if word < PEOPLE {
-        ask(word, a, b, record);
+        ask(rt, word, a, b, record);
         return record;
     }
     with_field(word, a, b, record)
 }
 
 // The rows of a sheet, one after the other; there are no more of them than bytes.
-fn take_rows(s: &[u8], blank: Record) {
+fn take_rows(rt: &(impl Files + Print + Eprint), s: &[u8], blank: Record) {
     let mut record = blank;
     let mut at = 0;
-    let mut left = s.len();
-    while 0 < left {
+    for _ in 0..s.len() {
         let RowCut::Cut(cells, next) = row_at(s, at) else {
             return;
         };
-        record = take_row(s, cells, record);
-        write_end();
+        record = take_row(rt, s, cells, record);
+        write_end(rt);
         at = next;
-        left -= 1;
     }
 }
 
-fn main() {
+fn main(rt: HostRuntime) {
     let mut cases = blank_sheet();
-    let length = read_sheet(b"cases.csv", &mut cases);
+    let length = read_sheet(&rt, "cases.csv", &mut cases);
     let refused = read_site(b"");
-    take_rows(&cases[..length], refused.record);
+    take_rows(&rt, &cases[..length], refused.record);
 }

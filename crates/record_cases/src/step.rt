@@ -30,28 +30,28 @@ fn by_method(kind: u8, door: usize, person: usize, record: Record) -> Step {
 }
 
 // What the record keeps of a door, and where the first two people are.
-fn write_kept(door: usize, record: Record) {
-    write_next(byte_at(&record.phase, door) as u64);
-    write_next(word_at(&record.holder, door) as u64);
-    write_next(word_at(&record.count, door) as u64);
-    write_next(byte_at(&record.place, 0) as u64);
-    write_next(byte_at(&record.place, 1) as u64);
+fn write_kept(rt: &impl Print, door: usize, record: Record) {
+    write_next(rt, byte_at(&record.phase, door) as u64);
+    write_next(rt, word_at(&record.holder, door) as u64);
+    write_next(rt, word_at(&record.count, door) as u64);
+    write_next(rt, byte_at(&record.place, 0) as u64);
+    write_next(rt, byte_at(&record.place, 1) as u64);
 }
 
 // The answer, the phase and the reason of a step, the door told with it, and what is kept afterwards.
-fn write_step(way: &[u8], door: usize, step: Step) {
+fn write_step(rt: &impl Print, way: &[u8], door: usize, step: Step) {
     let answer = step.answer;
-    write(way);
-    write_next(answer.number() as u64);
-    write_next(step.phase as u64);
-    write_next(step.reason as u64);
-    write_next(step.held as u64);
-    write_kept(door, step.next);
+    write(rt, way);
+    write_next(rt, answer.number() as u64);
+    write_next(rt, step.phase as u64);
+    write_next(rt, step.reason as u64);
+    write_next(rt, step.held as u64);
+    write_kept(rt, door, step.next);
 }
 
 // A list whole, of which a part was lent.
-fn write_one(list: &[u8; 1]) {
-    write_bytes(list);
+fn write_one(rt: &impl Print, list: &[u8; 1]) {
+    write_bytes(rt, list);
 }
 
 // How much is lent of this list of a run of one step: nothing of the one that has no room.
@@ -67,6 +67,7 @@ fn room(list: usize, short: usize) -> usize
 // A run of one step in which the list of this number has no room (with the number LISTS each has): its answer, and the four lists, which
 // held this before. The record that it hands back.
 pub fn write_ran(
+    rt: &impl Print,
     kind: u8,
     door: usize,
     person: usize,
@@ -92,22 +93,42 @@ pub fn write_ran(
         &mut held[0..room(3, short)],
     );
     let answer = ran.answer;
-    write_next(answer.number() as u64);
-    write_one(&answers);
-    write_one(&phases);
-    write_one(&reasons);
-    write_next(held[0] as u64);
+    write_next(rt, answer.number() as u64);
+    write_one(rt, &answers);
+    write_one(rt, &phases);
+    write_one(rt, &reasons);
+    write_next(rt, held[0] as u64);
     ran.next
 }
 
 // A step in its five ways; the record that the method hands back.
-pub fn do_step(kind: u8, door: usize, person: usize, record: Record) -> Record {
-    write_step(b" step", door, record.step(Kind::of(kind), door, person));
-    write_step(b" numbered", door, record.step_numbered(kind, door, person));
-    write_step(b" lent", door, lend(record, Kind::of(kind), door, person));
-    write(b" run");
-    write_kept(door, write_ran(kind, door, person, LISTS, 0, record));
+pub fn do_step(rt: &impl Print, kind: u8, door: usize, person: usize, record: Record) -> Record {
+    write_step(
+        rt,
+        b" step",
+        door,
+        record.step(Kind::of(kind), door, person),
+    );
+    write_step(
+        rt,
+        b" numbered",
+        door,
+        record.step_numbered(kind, door, person),
+    );
+    write_step(
+        rt,
+        b" lent",
+        door,
+        lend(record, Kind::of(kind), door, person),
+    );
+    write(rt, b" run");
+    write_kept(
+        rt,
+        door,
+        write_ran(rt, kind, door, person, LISTS, 0, record),
+    );
     let step = by_method(kind, door, person, record);
-    write_step(b" method", door, step);
-    step.next
+    let next = step.next;
+    write_step(rt, b" method", door, step);
+    next
 }

@@ -25,9 +25,8 @@ fn is_listed(s: &[u8], word: Cell, list: &[u8], listed: Cell) -> bool {
 
 // The number of a word in a list that has one in each row, the first being 0; how many there are where the list has it not.
 fn number_in(s: &[u8], word: Cell, list: &[u8]) -> u8 {
-    let mut n: u8 = 0;
     let mut at = 0;
-    while n < 255 {
+    for n in 0..255 {
         let RowCut::Cut(cells, next) = row_at(list, at) else {
             return n;
         };
@@ -35,9 +34,8 @@ fn number_in(s: &[u8], word: Cell, list: &[u8]) -> u8 {
             return n;
         }
         at = next;
-        n += 1;
     }
-    n
+    255
 }
 
 // The number of a word.

@@ -2,8 +2,6 @@
 use cell_meaning::Number;
 use cells::say::number_of;
 use grammar::cut::{Cell, Cells};
-use libc::STDOUT_FILENO;
-use lists::byte_at;
 
 // The number that a field says, 0 for none.
 pub fn number_or_0(s: &[u8], cell: Cell) -> usize {
@@ -28,35 +26,33 @@ pub fn word(n: usize) -> u16 {
     65535
 }
 
-pub fn write(text: &[u8]) {
-    io::write_all(STDOUT_FILENO, text);
+pub fn write(rt: &impl Print, text: &[u8]) {
+    let _ = rt.write_all(text);
 }
 
-pub fn write_next(n: u64) {
-    write(b",");
-    io::print_decimal(STDOUT_FILENO, n);
+pub fn write_next(rt: &impl Print, n: u64) {
+    write(rt, b",");
+    let _ = rt.print(n);
 }
 
-pub fn write_end() {
-    write(b"\r\n");
+pub fn write_end(rt: &impl Print) {
+    write(rt, b"\r\n");
 }
 
 // The row as it stands in the sheet.
-pub fn write_row(s: &[u8], cells: Cells) {
+pub fn write_row(rt: &impl Print, s: &[u8], cells: Cells) {
     let from = cells.first.start;
     let to = cells.third.end;
     if from <= to {
         if to <= s.len() {
-            write(&s[from..to]);
+            write(rt, &s[from..to]);
         }
     }
 }
 
 // Each byte of a list.
-pub fn write_bytes(list: &[u8]) {
-    let mut i = 0;
-    while i < list.len() {
-        write_next(byte_at(list, i) as u64);
-        i += 1;
+pub fn write_bytes(rt: &impl Print, list: &[u8]) {
+    for byte in list {
+        write_next(rt, u64::from(*byte));
     }
 }

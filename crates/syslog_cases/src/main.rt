@@ -6,13 +6,14 @@
 // that one was altered, and the text. Then each line of the file `cases` is read: as a line, as a stream from its front on, and as a
 // frame behind its end.
 #![tactic(auto)]
+
 mod read;
 mod write;
 
 use read::read_cases;
 use write::write_events;
 
-fn main() {
-    write_events();
-    read_cases();
+fn main(rt: HostRuntime) {
+    write_events(&rt);
+    read_cases(&rt);
 }

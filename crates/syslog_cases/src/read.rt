@@ -2,8 +2,8 @@
 ghost use Rattle.std.specs.Prelude.{◌≡◌, length};
 
 use crate::write::{print_end, print_next};
-use libc::STDOUT_FILENO;
 use sheet_files::read_sheet;
+use std::fs::Files;
 use syslog::{FrameRead, LineEvent, LineRead, Msgid};
 use syslog_read::{read_frame, read_line};
 
@@ -17,135 +17,122 @@ fn blank() -> [u8; MOST_BYTES]
     [0; MOST_BYTES]
 }
 
-fn print_name(msgid: Msgid) {
-    match msgid {
-        Msgid::Grant => {
-            io::write_all(STDOUT_FILENO, b",GRANT");
-        }
-        Msgid::Deny => {
-            io::write_all(STDOUT_FILENO, b",DENY");
-        }
-        Msgid::Pass => {
-            io::write_all(STDOUT_FILENO, b",PASS");
-        }
-        Msgid::Lapse => {
-            io::write_all(STDOUT_FILENO, b",LAPSE");
-        }
-    }
+fn print_name(rt: &impl Print, msgid: Msgid) {
+    let name = match msgid {
+        Msgid::Grant => ",GRANT",
+        Msgid::Deny => ",DENY",
+        Msgid::Pass => ",PASS",
+        Msgid::Lapse => ",LAPSE",
+    };
+    let _ = rt.print(name);
 }
 
-fn print_event(event: LineEvent) {
+fn print_event(rt: &impl Print, event: LineEvent) {
     let msgid = event.msgid;
-    print_name(msgid);
-    print_next(event.door);
-    print_next(event.person);
-    print_next(event.reason);
-    print_next(event.held);
+    print_name(rt, msgid);
+    print_next(rt, event.door);
+    print_next(rt, event.person);
+    print_next(rt, event.reason);
+    print_next(rt, event.held);
 }
 
-fn print_none() {
-    io::write_all(STDOUT_FILENO, b",,0,0,0,0");
+fn print_none(rt: &impl Print) {
+    let _ = rt.write_all(b",,0,0,0,0");
 }
 
-fn print_line(text: &[u8]) {
+fn print_line(rt: &impl Print, text: &[u8]) {
     let told = read_line(text);
-    io::write_all(STDOUT_FILENO, b"line");
-    print_next(told.number() as usize);
+    let _ = rt.write_all(b"line");
+    print_next(rt, told.number() as usize);
     match told {
-        LineRead::Is(event) => print_event(event),
-        LineRead::NotOurs => print_none(),
+        LineRead::Is(event) => print_event(rt, event),
+        LineRead::NotOurs => print_none(rt),
     }
-    print_end();
+    print_end(rt);
 }
 
 // A row for the frame at a place, or for the end of the stream; and the place behind a frame, or one past the stream's end where
 // nothing more is read.
-fn print_frame(text: &[u8], at: usize) -> usize {
+fn print_frame(rt: &impl Print, text: &[u8], at: usize) -> usize {
     let told = read_frame(text, at);
     match told {
         FrameRead::Frame(event, behind) => {
-            io::write_all(STDOUT_FILENO, b"frame");
-            print_next(told.number() as usize);
-            print_event(event);
-            print_next(behind);
-            print_end();
+            let _ = rt.write_all(b"frame");
+            print_next(rt, told.number() as usize);
+            print_event(rt, event);
+            print_next(rt, behind);
+            print_end(rt);
             behind
         }
         FrameRead::End => {
-            io::write_all(STDOUT_FILENO, b"end");
-            print_next(at);
-            print_end();
+            let _ = rt.write_all(b"end");
+            print_next(rt, at);
+            print_end(rt);
             MOST_BYTES
         }
         FrameRead::NotOurs => {
-            io::write_all(STDOUT_FILENO, b"frame");
-            print_next(told.number() as usize);
-            print_none();
-            print_next(at);
-            print_end();
+            let _ = rt.write_all(b"frame");
+            print_next(rt, told.number() as usize);
+            print_none(rt);
+            print_next(rt, at);
+            print_end(rt);
             MOST_BYTES
         }
     }
 }
 
-fn print_frames(text: &[u8]) {
+fn print_frames(rt: &impl Print, text: &[u8]) {
     let mut at = 0;
-    let mut left = MOST_BYTES;
-    while 0 < left {
+    for _ in 0..MOST_BYTES {
         if text.len() < at {
             return;
         }
-        at = print_frame(text, at);
-        left -= 1;
+        at = print_frame(rt, text, at);
     }
 }
 
-fn print_beyond(text: &[u8]) {
+fn print_beyond(rt: &impl Print, text: &[u8]) {
     let told = read_frame(text, text.len() + 1);
-    io::write_all(STDOUT_FILENO, b"beyond");
-    print_next(told.number() as usize);
-    print_end();
+    let _ = rt.write_all(b"beyond");
+    print_next(rt, told.number() as usize);
+    print_end(rt);
 }
 
 // Where a line of the file ends.
 fn line_end(cases: &[u8], from: usize) -> usize {
-    let mut i = from;
-    while i < cases.len() {
+    for i in from..cases.len() {
         if cases[i] == LF {
             return i;
         }
-        i += 1;
     }
     cases.len()
 }
 
-fn print_case(cases: &[u8], from: usize, end: usize) {
+fn print_case(rt: &impl Print, cases: &[u8], from: usize, end: usize) {
     if from <= end {
         if end <= cases.len() {
             let text = &cases[from..end];
-            print_line(text);
-            print_frames(text);
-            print_beyond(text);
+            print_line(rt, text);
+            print_frames(rt, text);
+            print_beyond(rt, text);
         }
     }
 }
 
-fn print_cases(cases: &[u8]) {
+fn print_cases(rt: &impl Print, cases: &[u8]) {
     let mut from = 0;
-    let mut left = MOST_BYTES;
-    while 0 < left {
+    for _ in 0..MOST_BYTES {
         if cases.len() <= from {
             return;
         }
         let end = line_end(cases, from);
-        print_case(cases, from, end);
-        from = std::num::wrapping_add_usize(end, 1);
-        left -= 1;
+        print_case(rt, cases, from, end);
+        from = end.wrapping_add(1);
     }
 }
 
-pub(crate) fn read_cases() {
+pub(crate) fn read_cases(rt: &(impl Files + Print + Eprint)) {
     let mut cases = blank();
-    let length = read_sheet(b"cases", &mut cases);
-    print_cases(&cases[..length]);
+    let length = read_sheet(rt, "cases", &mut cases);
+    print_cases(rt, &cases[..length]);
 }

@@ -1,5 +1,4 @@
 // Events that are written: those that fit and those that don't, into lists of several lengths.
-use libc::STDOUT_FILENO;
 use syslog::{LineEvent, LineWritten, Msgid};
 use syslog_write::{write_frame, write_line};
 
@@ -22,8 +21,7 @@ fn blank() -> [u8; ROOM] {
 }
 
 fn is_blank(list: &[u8; ROOM]) -> bool {
-    let zeros = blank();
-    check::same(list, &zeros)
+    *list == blank()
 }
 
 // The doors, persons and held doors that are tried: one digit and two, the last that fits and the first that doesn't.
@@ -74,62 +72,60 @@ fn length_told(written: LineWritten) -> usize {
 }
 
 // Prints a number behind a comma.
-pub(crate) fn print_next(n: usize) {
-    io::write_all(STDOUT_FILENO, b",");
-    io::print_decimal(STDOUT_FILENO, n as u64);
+pub(crate) fn print_next(rt: &impl Print, n: usize) {
+    let _ = rt.write_all(b",");
+    let _ = rt.print(n);
 }
 
-pub(crate) fn print_end() {
-    io::write_all(STDOUT_FILENO, b"\r\n");
+pub(crate) fn print_end(rt: &impl Print) {
+    let _ = rt.write_all(b"\r\n");
 }
 
 // The number for a list of so many bytes, and whether it was altered.
-fn print_with_room(form: Form, event: LineEvent, room: usize) {
+fn print_with_room(rt: &impl Print, form: Form, event: LineEvent, room: usize) {
     let mut list = blank();
     if ROOM < room {
         return;
     }
     let written = write_as(form, event, &mut list[0..room]);
-    print_next(written.number() as usize);
-    print_altered(!is_blank(&list));
+    print_next(rt, written.number() as usize);
+    print_altered(rt, !is_blank(&list));
 }
 
 // The number for a list of just so many bytes.
-fn print_exact(form: Form, event: LineEvent, room: usize) {
+fn print_exact(rt: &impl Print, form: Form, event: LineEvent, room: usize) {
     let mut list = blank();
     if ROOM < room {
         return;
     }
     let written = write_as(form, event, &mut list[0..room]);
-    print_next(written.number() as usize);
+    print_next(rt, written.number() as usize);
 }
 
 // Whether a list is altered from a place on.
 fn is_altered(list: &[u8], from: usize) -> bool {
-    let mut i = from;
-    while i < list.len() {
+    for i in from..list.len() {
         if list[i] != 0 {
             return true;
         }
-        i += 1;
     }
     false
 }
 
-fn print_altered(altered: bool) {
+fn print_altered(rt: &impl Print, altered: bool) {
     if altered {
-        print_next(1);
+        print_next(rt, 1);
     } else {
-        print_next(0);
+        print_next(rt, 0);
     }
 }
 
-fn print_text(list: &[u8], length: usize) {
-    io::write_all(STDOUT_FILENO, b",");
+fn print_text(rt: &impl Print, list: &[u8], length: usize) {
+    let _ = rt.write_all(b",");
     if length <= list.len() {
-        io::write_all(STDOUT_FILENO, &list[0..length]);
+        let _ = rt.write_all(&list[0..length]);
     }
-    print_end();
+    print_end(rt);
 }
 
 fn less_one(n: usize) -> usize {
@@ -140,30 +136,28 @@ fn less_one(n: usize) -> usize {
 }
 
 // A row of one event in one form, its name being printed already.
-fn print_written(form: Form, event: LineEvent) {
+fn print_written(rt: &impl Print, form: Form, event: LineEvent) {
     let mut list = blank();
     let written = write_as(form, event, &mut list);
     let length = length_told(written);
-    print_next(written.number() as usize);
-    print_next(length);
-    print_altered(is_altered(&list, length));
-    print_exact(form, event, length);
-    print_with_room(form, event, less_one(length));
-    print_text(&list, length);
+    print_next(rt, written.number() as usize);
+    print_next(rt, length);
+    print_altered(rt, is_altered(&list, length));
+    print_exact(rt, form, event, length);
+    print_with_room(rt, form, event, less_one(length));
+    print_text(rt, &list, length);
 }
 
-fn print_event(n: usize) {
+fn print_event(rt: &impl Print, n: usize) {
     let event = event_tried(n);
-    io::write_all(STDOUT_FILENO, b"line");
-    print_written(Form::Line, event);
-    io::write_all(STDOUT_FILENO, b"frame");
-    print_written(Form::Frame, event);
+    let _ = rt.write_all(b"line");
+    print_written(rt, Form::Line, event);
+    let _ = rt.write_all(b"frame");
+    print_written(rt, Form::Frame, event);
 }
 
-pub(crate) fn write_events() {
-    let mut n = 0;
-    while n < EVENTS {
-        print_event(n);
-        n += 1;
+pub(crate) fn write_events(rt: &impl Print) {
+    for n in 0..EVENTS {
+        print_event(rt, n);
     }
 }
