@@ -35,7 +35,7 @@ ANY = {"NAME", "FILE", "FOLDER", "FUNCTION", "PROGRAM", "NNNN"}
 PROGRAMS = {"rt", "python3", "ssconvert", "sed", "head"}
 # What isn't ours, by where it stands.
 ELSEWHERE = {
-    "": {"out/"},  # what rt makes: it is not there on a clean clone
+    "": {"target/"},  # what the commands make: it is not there on a clean clone
     "crates/machines": {"init"},  # an event of 001, which has no name here
     "crates/chapter": {"init"},
     "docs/CHAPTER.md": {"init"},
@@ -102,7 +102,8 @@ def scripts():
 
 def pages():
     """The documents."""
-    return ["README.md", os.path.join("examples", "README.md")] + sorted(glob.glob("docs/**/*.md", recursive=True))
+    # docs/PORT.md names what was called otherwise before
+    return ["README.md", os.path.join("examples", "README.md")] + sorted(set(glob.glob("docs/**/*.md", recursive=True)) - {"docs/PORT.md"})
 
 
 @functools.lru_cache(maxsize=None)

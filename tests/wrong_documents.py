@@ -94,7 +94,7 @@ def try_names():
 
 def left_out(folder, names):
     """What the copy does without: what is built, and the programs' data."""
-    return names if os.path.basename(folder) == "data" else {".git", "out"} & set(names)
+    return names if os.path.basename(folder) == "data" else {".git", "target", "out"} & set(names)
 
 
 def main():
