@@ -15,6 +15,10 @@ FUNCTION = re.compile(r"^\s*(?:#\[[^\]]*\]\s*)?pub\s+(?:extern\s+\"C\"\s+)?fn\s+
 BODY = re.compile(r"^\s*[{}]$", re.M)
 TOKEN = re.compile(r"[^\s(){}\[\];,]+")
 OWNER = re.compile(r"^impl(?:<[^>]*>)?\s+([A-Za-z_0-9]+)", re.M)
+# A trait for a type, and its methods; what they promise stands behind `ghost`, as the trait asks for it.
+TRAIT_FOR = re.compile(r"^impl(?:<[^>]*>)? \w+(?:<[^>]*>)? for (\w+)[^\n]*\{\n(.*?)^\}", re.M | re.S)
+METHOD = re.compile(r"^    fn ([a-z_0-9]+)", re.M)
+GHOST = re.compile(r"^    ghost \w+ = (\{.*\});$", re.M)
 
 # The parts of demand 1 and of the uniqueness of answers (`SheetAnswers`, `SheetUnique`, ..) in which a crate's functions have their fields.
 PARTS = {
@@ -24,10 +28,8 @@ PARTS = {
     "text": ["Text"],
     "number_rows": ["Text"],
     "lists": ["Tables"],
+    "numbers": ["Text", "Enum", "Syslog"],
     "findings": ["Text", "Enum"],
-    "asked_place": ["Enum"],
-    "asked_grant": ["Enum"],
-    "asked_way": ["Enum"],
     "rules": ["Rules"],
     "phases": ["Door", "Enum"],
     "door": ["Door"],
@@ -64,10 +66,49 @@ SAID_IN = ["sheet_answers", "syslog_answers", "table_answers", "record_answers",
 WHOLE = {"Answers": "DemandOne", "Unique": "AnswersUnique"}
 # What these tell comes from outside, so that they have a promise and no field (docs/DEMANDS.md).
 OUTSIDE = {"sheet_files::read_sheet", "sheet_files::read_asked", "sheet_files::read_input", "sheet_files::name_in", "program_io::number_asked"}
+# What only lends what a struct holds, what makes a refusal that of another function, and the number of a refusal that only texts tell: their
+# promise is all that there is to say of them (docs/DEMANDS.md).
+HANDS_ON = {
+    "deeds::Moving::door_lists", "record::Record::tables", "record::Record::door_lists", "findings::WayRefused::from", "syslog::Unwritten::from",
+    "steps_sheet::Unheaded::number",
+}
 # What only writes to standard error has no answer to promise.
 SAYS = {"sheet_files::fail"}
-# What is said of every plan is said of each that `plan` puts together from its parts.
-PUT_TOGETHER = {"plan": "Plan"}
+# What is said of every plan is said of each that `plan` puts together from its parts, and of the one that lent tables are. An answer's
+# number is that of what is done or the refusal's; that of a list that is too short is 13, and that of a refused sheet its verdict's.
+PUT_TOGETHER = {
+    "plan": ["Plan"],
+    "plan_lent": ["Plan", "plan"],
+    "told_no": ["done_no"],
+    "short_no": ["too_short_no"],
+    "site_refused_no": ["verdict_no"],
+}
+# What hands the answer of a definition on in the code's own type: a field speaks of the answer itself.
+HANDED_ON = {"site_told", "heading_told", "reading_told", "said_of"}
+# What a promise asks of a closure that it is given: a field speaks of what comes of it.
+ASKED = {"Puts"}
+# The fields of what isn't called as they are: one for each type that a function is of, or the name of the answer that it is asked for.
+FIELDS = {
+    "lists::entry_at": ["byte_at", "word_at", "flag_at"],
+    "lists::put_entry": ["put_byte", "put_word"],
+    "rules::Tables::way_out": ["way_by_exits"],
+    "rules::Tables::is_lawful": ["lawful"],
+    "door::Doors::at": ["among"],
+    "phases::Kind::from": ["kind_of_lem"],
+    "phases::u8::from": ["kind_number"],
+    "verdict::SiteRefused::place": ["verdict_place"],
+    "verdict::SiteRefused::second_place": ["verdict_second_place"],
+    "verdict::SiteRefused::number": ["verdict_number"],
+    "numbers::Result::number": [
+        "way_told_number", "printed_number", "place_answer_number", "grant_answer_number", "way_answer_number",
+        "line_written_number", "line_read_number", "frame_read_number",
+    ],
+    "findings::TooShort::number": ["way_told_number", "printed_number"],
+    "findings::Refused::number": ["place_answer_number", "grant_answer_number"],
+    "findings::WayRefused::number": ["way_answer_number"],
+    "syslog::Unwritten::number": ["line_written_number"],
+    "syslog::NotOurs::number": ["line_read_number", "frame_read_number"],
+}
 
 faults = []
 
@@ -107,8 +148,21 @@ def functions(crate):
             yield "".join(owner) + m.group(1), text[m.start() : body.start() if body else len(text)], text
 
 
+def trait_methods(crate):
+    """The methods that a library gives types by a trait, as `functions` has them: what they promise is what the trait asks of each type."""
+    folder = os.path.join("crates", crate, "src")
+    if not os.path.exists(os.path.join(folder, "lib.rt")):
+        return
+    for name in sorted(os.listdir(folder)):
+        text = read(folder, name)
+        for m in TRAIT_FOR.finditer(text):
+            head = "".join(f"ensures {promise}\n" for promise in GHOST.findall(m.group(2)))
+            for method in METHOD.findall(m.group(2)):
+                yield f"{m.group(1)}::{method}", head, text
+
+
 def public_functions(crate):
-    return (name for name, _, _ in functions(crate))
+    return [name for name, _, _ in functions(crate)] + sorted({name for name, _, _ in trait_methods(crate)})
 
 
 def rows(page, crate):
@@ -142,7 +196,7 @@ def check_promises(listed):
     # a promise may cite a definition of another crate, whose edits then count too
     counted = set().union(*map(edits_of, listed))
     for crate in listed:
-        functions = list(public_functions(crate))
+        functions = public_functions(crate)
         edits = edits_of(crate)
         promised = {}
         if functions:
@@ -185,6 +239,16 @@ def statements():
     return bodies, fields
 
 
+def definitions():
+    """The definitions of all crates, by name."""
+    bodies = {}
+    for path in edits.files("specs", ".antt"):
+        text = re.sub(r"^\s*--.*$", "", read(path), flags=re.M)
+        for name, start, end in edits.blocks(text):
+            bodies[name] = bodies.get(name, "") + text[start:end]
+    return bodies
+
+
 def cited(text, bodies):
     """The names in a statement, and in those that it cites."""
     names, left = set(), [text]
@@ -205,7 +269,9 @@ def promised_by(head, text):
             known |= {name.strip() for name in names.split(",")}
     parameters = set(re.findall(r"(\w+):", head.split("ensures")[0]))
     promise = " ".join(re.findall(r"ensures \w* ?\{(.*?)\}$", head, re.S | re.M))
-    return set(TOKEN.findall(promise)) & known - parameters | set(re.findall(r"\b[A-Z]\w*\.([A-Z]\w*)", promise))
+    # what a type has that stands for any, as `T.PAST_END`, is no case of an enum
+    cases = {case for owner, case in re.findall(r"\b([A-Z]\w*)\.([A-Z]\w*)", promise) if owner not in parameters}
+    return (set(TOKEN.findall(promise)) & known - parameters | cases) - HANDED_ON - ASKED
 
 
 def field_names(name):
@@ -217,6 +283,8 @@ def field_names(name):
 def check_fields(listed):
     """Each public function has its field in demand 1 and in the uniqueness of answers, which cites what its promise cites."""
     bodies, fields = statements()
+    # the number of an answer is a definition of a crate below, which cites the refusal's
+    below = {**definitions(), **bodies}
     for kind, whole in WHOLE.items():
         held = cited(" ".join(fields[whole].values()), {})
         for part in sorted({part + kind for parts in PARTS.values() for part in parts} | {name for name in fields if name.endswith(kind) and name != whole}):
@@ -230,19 +298,29 @@ def check_fields(listed):
                 continue
             if "ensures" not in head:
                 faults.append(f"{crate}::{name} has no promise")
-            if f"{crate}::{name}" in OUTSIDE:
+            if f"{crate}::{name}" in OUTSIDE | HANDS_ON:
                 continue
-            for kind in ("Answers", "Unique"):
-                parts = [fields.get(part + kind, {}) for part in PARTS.get(crate, [])]
-                names = field_names(name) + field_names(name.split("::")[-1])
-                found = [part[field] for field in names for part in parts if field in part]
-                if not found:
-                    faults.append(f"no crate that says the demands has a field for {crate}::{name} ({kind})")
-                    continue
-                said = cited(found[0], bodies)
-                for lost in sorted(promised_by(head, text) - said):
-                    if PUT_TOGETHER.get(lost) not in said:
-                        faults.append(f"the field of {crate}::{name} ({kind}) does not cite {lost}, which the promise does")
+            check_field(crate, name, promised_by(head, text), fields, bodies)
+        for name, head, text in trait_methods(crate):
+            if "ensures" not in head:
+                faults.append(f"{crate}::{name} has no promise")
+            if f"{crate}::{name}" not in HANDS_ON:
+                check_field(crate, name, promised_by(head, text), fields, below)
+
+
+def check_field(crate, name, promised, fields, bodies):
+    """One function has its fields, which cite what it promises."""
+    for kind in ("Answers", "Unique"):
+        parts = [fields.get(part + kind, {}) for part in PARTS.get(crate, [])]
+        for names in [[field] for field in FIELDS.get(f"{crate}::{name}", [])] or [field_names(name) + field_names(name.split("::")[-1])]:
+            found = [part[field] for field in names for part in parts if field in part]
+            if not found:
+                faults.append(f"no crate that says the demands has a field for {crate}::{name} ({kind})")
+                continue
+            said = cited(found[0], bodies)
+            for lost in sorted(promised - said):
+                if said.isdisjoint(PUT_TOGETHER.get(lost, [])):
+                    faults.append(f"the field of {crate}::{name} ({kind}) does not cite {lost}, which the promise does")
 
 
 def check_map(listed):

@@ -29,6 +29,8 @@ BARE_PATH = re.compile(r"(?<![\w./`])((?:crates/)?(?:[a-z_]+/)?(?:specs|proofs|s
 STEPS = {"card", "decide", "green", "red", "walk", "tick", "passed", "lapsed", "dark", "ack"}
 # The MSGIDs of 02's syslog lines.
 MSGIDS = {"GRANT", "DENY", "PASS", "LAPSE"}
+# What the kit's iterators and slices have, and its traits and types.
+STD = {"all", "any", "find", "position", "unwrap_or", "From", "Result", "Option", "u8", "u16"}
 # Words that stand for any name.
 ANY = {"NAME", "FILE", "FOLDER", "FUNCTION", "PROGRAM", "NNNN"}
 # What begins with one of these is said to another program.
@@ -41,7 +43,8 @@ ELSEWHERE = {
     "docs/CHAPTER.md": {"init"},
     "docs/DECISIONS.md": {"serving", "files", "saying", "line_of", "No", "Idle", "init"},  # what was called so before; the ending of a name
     "docs/SHEETS.md": {"writer", "newline"},  # Python's
-    "docs/changes/C-14.md": {"lacks_door", "lets_in", "zero_at", "sole_grant"},  # private functions that went with it
+    # private functions that went, with it or later, and a file of proofs
+    "docs/changes/C-14.md": {"lacks_door", "lets_in", "zero_at", "sole_grant", "has_first", "crates/soundness/proofs/Onward.antt"},
 }
 
 
@@ -102,8 +105,8 @@ def scripts():
 
 def pages():
     """The documents."""
-    # docs/PORT.md names what was called otherwise before
-    return ["README.md", os.path.join("examples", "README.md")] + sorted(set(glob.glob("docs/**/*.md", recursive=True)) - {"docs/PORT.md"})
+    # docs/PORT.md and docs/DESIGN-PASS.md name what was called otherwise before
+    return ["README.md", os.path.join("examples", "README.md")] + sorted(set(glob.glob("docs/**/*.md", recursive=True)) - {"docs/PORT.md", "docs/DESIGN-PASS.md"})
 
 
 @functools.lru_cache(maxsize=None)
@@ -120,7 +123,7 @@ def file_names():
 def members_in(text):
     """What a file of code has, and what each of its types has."""
     whole = re.findall(r"^\s*(?:pub(?:\(crate\))? )?(?:fn|struct|enum|const|mod) (\w+)", text, re.M)
-    types = re.findall(r"^(?:impl|pub enum)(?:<[^>]*>)? (\w+)[^\n]*\{\n(.*?)^\}", text, re.M | re.S)
+    types = re.findall(r"^(?:impl|pub enum|pub trait)(?:<[^>]*>)? (?:\w+(?:<[^>]*>)? for )?(\w+)[^\n]*\{\n(.*?)^\}", text, re.M | re.S)
     return whole, [(owner, name) for owner, body in types for name in re.findall(r"^    (?:pub )?(?:fn |const )?(\w+)", body, re.M)]
 
 
@@ -186,7 +189,7 @@ class Lines:
         for path, crate, words, _ in self.files:
             if not path.endswith(".edit"):
                 self.of_crate[crate] |= words
-        self.always = STEPS | MSGIDS | set(listed) | set(os.listdir("bin"))
+        self.always = STEPS | MSGIDS | STD | set(listed) | set(os.listdir("bin"))
         self.all = self.always.union(file_names(), *self.of_crate.values())
         self.below = {crate: on(listed, crate) for crate in listed}
         self.reached = {}

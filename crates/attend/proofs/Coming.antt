@@ -8,6 +8,8 @@ use borrow.Author.Tests.{eq-eqb}
 use lib.Dec.{eqb}
 use lib.ListN.{length}
 use Rattle.tables.proofs.Cases.{either}
+use Rattle.std.specs.Prelude.{Option, Some, None}
+use Rattle.phases.specs.declared.table.StepRow.{StepRow}
 use Rattle.phases.specs.declared.table.Kind.{Kind}
 use Rattle.grammar.specs.declared.cut.RowCut.{RowCut}
 use Rattle.grammar.specs.declared.cut.RowCut.TheVariants.{Cut, NoRow, Broken}
@@ -17,9 +19,7 @@ use Rattle.grammar.specs.Where.{cells_of}
 use Rattle.grammar.proofs.Unique.{row_unique}
 use Rattle.grammar.proofs.Reading.{cut_there}
 use Rattle.grammar.proofs.Exact.{row_is_cut, cut_is_row, no_row_end, broken_some, broken_none}
-use Rattle.steps_sheet.specs.declared.StepsLine.TheVariants as line
 use Rattle.steps_sheet.specs.Steps.{steps_line_at, is_step}
-use Rattle.steps_sheet.specs.declared.StepsLine.{StepsLine}
 use Rattle.steps_sheet.proofs.Rows.{step_from, step_line_same, line_says, said_is_step}
 use Rattle.attend.specs.Attend.{row_says_by, row_says}
 use Rattle.attend.specs.Live.{no_more, a_row, no_row, ComesInRows}
@@ -35,27 +35,27 @@ alone_says {row} r a =
     rw (e, whole, eq-eqb (length row) (length row) refl) (said ∙ ap step_from (row_unique c.there a refl).first)
 
 -- bytes that begin with no row
-pub none_says : (text : List ℕ) → ((r : Row) (rest : List ℕ) → RowAt text r rest → ⊥) → row_says text ≡ line.Bad
+pub none_says : (text : List ℕ) → ((r : Row) (rest : List ℕ) → RowAt text r rest → ⊥) → row_says text ≡ None
 unfolding row_says
 none_says text none = go (cut_row text 0) refl
   where
-    go : (cut : RowCut) → cut_row text 0 ≡ cut → row_says_by text cut ≡ line.Bad
+    go : (cut : RowCut) → cut_row text 0 ≡ cut → row_says_by text cut ≡ None
     go (Cut cells next) e = let c = cut_is_row text 0 e in absurd (none c.row c.rest c.there)
     go NoRow e = refl
     go (Broken byte) e = refl
 
-bad_step : {k : Kind} {d p : ℕ} {A : Type 0} → line.Bad ≡ line.Step k d p → A
+bad_step : {step : StepRow} {A : Type 0} → None ≡ Some step → A
 bad_step e = let z : ◌≡◌ {A = ℕ} 0 1 = cc in absurd (omega arith)
 
 -- what a row says that comes alone is one of the ten steps
-pub says_a_step : (row : List ℕ) {k : Kind} {d p : ℕ} → row_says row ≡ line.Step k d p → is_step k ≡ true
+pub says_a_step : (row : List ℕ) {k : Kind} {d p : ℕ} → row_says row ≡ Some (record { kind = k; at = d; person = p }) → is_step k ≡ true
 unfolding row_says
 says_a_step row {k} {d} {p} said = go (cut_row row 0) refl said
   where
-    go : (cut : RowCut) → cut_row row 0 ≡ cut → row_says_by row cut ≡ line.Step k d p → is_step k ≡ true
+    go : (cut : RowCut) → cut_row row 0 ≡ cut → row_says_by row cut ≡ Some (record { kind = k; at = d; person = p }) → is_step k ≡ true
     go (Cut cells next) e is =
         let c = cut_is_row row 0 e in
-        either (λ (l : StepsLine). l ≡ line.Step k d p → is_step k ≡ true) (eqb next (length row))
+        either (λ (l : Option StepRow). l ≡ Some (record { kind = k; at = d; person = p }) → is_step k ≡ true) (eqb next (length row))
         (λ _ so. said_is_step (line_says c.row (sym (step_line_same row c.row c.holds) ∙ so))) (λ _ so. bad_step so) is
     go NoRow e is = bad_step is
     go (Broken byte) e is = bad_step is

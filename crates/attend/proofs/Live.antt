@@ -7,17 +7,17 @@ use mathlib.Core.Path.{◌≡◌, refl, sym, ap, ◌∙◌}
 use mathlib.Core.Bool.{Bool, true, false, false≢true}
 use mathlib.Core.List.{List, [], ◌∷◌, ◌++◌, append_assoc, append-nil}
 use lib.ListN.{length}
+use Rattle.std.specs.Prelude.{Option, Some, None}
 use Rattle.grammar.specs.Grammar.{Row, RowAt}
 use Rattle.grammar.proofs.Unique.{row_unique, no_row_at}
 use Rattle.phases.specs.declared.table.Kind.TheVariants.{Unknown}
 use Rattle.phases.specs.Answers.{answer_no}
-use Rattle.phases.specs.Kinds.{StepRow, allows}
+use Rattle.phases.specs.declared.table.StepRow.{StepRow}
+use Rattle.phases.specs.Kinds.{allows}
 use Rattle.record.specs.declared.record.Record.{Record}
 use Rattle.record.specs.Steps.{step_of}
 use Rattle.record.specs.Run.{row_of, last_of, replies_of}
 use Rattle.record.proofs.Laws.{step_cases}
-use Rattle.steps_sheet.specs.declared.StepsLine.{StepsLine}
-use Rattle.steps_sheet.specs.declared.StepsLine.TheVariants as line
 use Rattle.steps_sheet.specs.Says.{SaysStep, BadForm, TextSaysSteps, nothing, a_step, bad_row_first, no_row_there}
 use Rattle.steps_sheet.specs.Steps.{is_step}
 use Rattle.steps_sheet.proofs.Rows.{step_from, says_line, line_says, said_is_step}
@@ -32,18 +32,18 @@ abbrev pub asked_for : StepRow → RowAsks
 asked_for step = record { kind = step.kind; door = step.at; person = step.person }
 
 abbrev pub nothing_asked : RowAsks
-nothing_asked = asked_by line.Bad
+nothing_asked = asked_by None
 
 -- a row that says a step asks for it, and one of bad form for nothing
 step_asked_lem : {row : List ℕ} (r : Row) (step : StepRow) → RowAt row r [] → SaysStep r step → asked_in row ≡ asked_for step
 step_asked_lem r step a says = ap asked_by (alone_says r a ∙ says_line r says)
 
-bad_line : (r : Row) → BadForm r → step_from r ≡ line.Bad
+bad_line : (r : Row) → BadForm r → step_from r ≡ None
 bad_line r bad = go (step_from r) refl
   where
-    go : (l : StepsLine) → step_from r ≡ l → l ≡ line.Bad
-    go (line.Step k d p) e = absurd (bad _ (line_says r e))
-    go line.Bad e = refl
+    go : (l : Option StepRow) → step_from r ≡ l → l ≡ None
+    go (Some step) e = absurd (bad step (line_says r e))
+    go None e = refl
 
 bad_asked : {row : List ℕ} (r : Row) → RowAt row r [] → BadForm r → asked_in row ≡ nothing_asked
 bad_asked r a bad = ap asked_by (alone_says r a ∙ bad_line r bad)

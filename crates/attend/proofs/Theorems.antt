@@ -17,8 +17,9 @@ use Rattle.tables.specs.Tables.{most_doors}
 use Rattle.tables.specs.Zero.{zeros}
 use Rattle.tables.proofs.Zero.{zeros_at}
 use Rattle.tables.proofs.Cases.{either}
+use Rattle.std.specs.Prelude.{Some, None}
 use Rattle.grammar.specs.Sizes.{limit}
-use Rattle.verdict.specs.declared.Verdict.TheVariants.{Accepted}
+use Rattle.verdict.specs.Verdict.{Accepted}
 use Rattle.deeds.specs.declared.Told.{Told}
 use Rattle.record.specs.declared.record.Record.{Record}
 use Rattle.record.specs.Doors.{Shaped}
@@ -34,10 +35,9 @@ use Rattle.numbers.specs.Numbers.{bad_form_no}
 use Rattle.phases.specs.declared.table.Kind.{Kind}
 use Rattle.phases.specs.declared.answer.Answer.TheVariants.{Unsound}
 use Rattle.phases.specs.Answers.{answer_no}
-use Rattle.phases.specs.Kinds.{StepRow}
-use Rattle.steps_sheet.specs.declared.Heading.TheVariants.{Rows}
+use Rattle.phases.specs.declared.table.StepRow.{StepRow}
+use Rattle.steps_sheet.specs.Heading.{Rows}
 use Rattle.steps_sheet.specs.Says.{TextSaysSteps}
-use Rattle.steps_sheet.specs.declared.StepsLine.TheVariants as line
 use Rattle.steps_sheet.specs.Steps.{is_step, heading_of, steps_from}
 use Rattle.steps_sheet.proofs.Text.{steps_said}
 use Rattle.text.proofs.Decimal.{one_digit_lem, two_digits, digits_most}
@@ -83,7 +83,7 @@ pub live_unlimited : (s : List ℕ) (from : ℕ) (rows : List (List ℕ)) → In
 live_unlimited s from rows come r =
     (run_printed (steps_said s from) come r, rows_done (rows_ask (steps_said s from) come refl) r, λ sh sound. frames_of (steps_said s from) come r sh sound)
 
-pub bad_row_stays : (r : Record) (row : List ℕ) → row_says row ≡ line.Bad → (step_asked r (asked_in row)).next ≡ r
+pub bad_row_stays : (r : Record) (row : List ℕ) → row_says row ≡ None → (step_asked r (asked_in row)).next ≡ r
 bad_row_stays r row e = rw e (unknown_stays r 0 0)
 
 pub refused_row_stays : (r : Record) (row : List ℕ) → (answer_no (step_asked r (asked_in row)).answer ≡ 0 → ⊥) → (step_asked r (asked_in row)).next ≡ r
@@ -92,11 +92,11 @@ refused_row_stays r row =
     step_cases (λ s. (answer_no s.answer ≡ 0 → ⊥) → s.next ≡ r) r asked.kind asked.door asked.person (λ a ph _ _. refl)
     (λ _ no. absurd (no (ap answer_no (act_done r asked.door (doing r asked.kind asked.door asked.person)))))
 
-pub bad_row_printed : (n : ℕ) (row : List ℕ) (told : Told) → row_says row ≡ line.Bad → shown_row n (asked_in row) told ≡ panel_row n bad_form_no 0 0 0
+pub bad_row_printed : (n : ℕ) (row : List ℕ) (told : Told) → row_says row ≡ None → shown_row n (asked_in row) told ≡ panel_row n bad_form_no 0 0 0
 unfolding shown_row
 bad_row_printed n row told e = rw e
 
-pub step_printed : (r : Record) (n : ℕ) (row : List ℕ) (k : Kind) (d p : ℕ) → row_says row ≡ line.Step k d p
+pub step_printed : (r : Record) (n : ℕ) (row : List ℕ) (k : Kind) (d p : ℕ) → row_says row ≡ Some (record { kind = k; at = d; person = p })
     → shown_row n (asked_in row) (told_by (step_asked r (asked_in row)))
     ≡ panel_row n (answer_no (step_of r k d p).answer) (step_of r k d p).phase (step_of r k d p).reason (step_of r k d p).held
 unfolding shown_row

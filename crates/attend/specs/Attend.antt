@@ -1,6 +1,8 @@
 -- One row of a steps sheet, answered as it comes. 01, "Steps": "the panel's own loop lends it the one record and finds it altered, or as it was
 -- after a refusal."
 use Rattle.std.specs.Prelude.{ℕ, ◌≡◌, cond, List, length, eqb}
+use Rattle.std.specs.Prelude.{Option, Some, None}
+use Rattle.phases.specs.declared.table.StepRow.{StepRow}
 use Rattle.numbers.specs.Numbers.{bad_form_no}
 use Rattle.grammar.specs.declared.cut.RowCut.{RowCut}
 use Rattle.grammar.specs.declared.cut.RowCut.TheVariants.{Cut, NoRow, Broken}
@@ -11,8 +13,6 @@ use Rattle.deeds.specs.declared.Told.{Told}
 use Rattle.record.specs.declared.record.Record.{Record}
 use Rattle.record.specs.declared.steps.Step.{Step}
 use Rattle.record.specs.Steps.{step_of, told_by}
-use Rattle.steps_sheet.specs.declared.StepsLine.{StepsLine}
-use Rattle.steps_sheet.specs.declared.StepsLine.TheVariants as line
 use Rattle.steps_sheet.specs.Steps.{steps_line_at, is_step}
 use Rattle.text.specs.Wrote.{Wrote}
 use Rattle.run_text.specs.Printed.{panel_row}
@@ -20,18 +20,18 @@ use Rattle.attend.specs.declared.RowAsks.{RowAsks}
 use Rattle.attend.specs.declared.Attended.{Attended}
 
 -- what some bytes say that are to be one row, with its CRLF or without: no row, or more than one, is of bad form
-abbrev pub row_says_by : List ℕ → RowCut → StepsLine
-row_says_by row (Cut cells next) = cond (eqb next (length row)) (steps_line_at row cells) line.Bad
-row_says_by row NoRow = line.Bad
-row_says_by row (Broken byte) = line.Bad
+abbrev pub row_says_by : List ℕ → RowCut → Option StepRow
+row_says_by row (Cut cells next) = cond (eqb next (length row)) (steps_line_at row cells) None
+row_says_by row NoRow = None
+row_says_by row (Broken byte) = None
 
-unfoldable pub row_says : List ℕ → StepsLine
+unfoldable pub row_says : List ℕ → Option StepRow
 row_says row = row_says_by row (cut_row row 0)
 
 -- what a row asks for; one of bad form asks for no step
-abbrev pub asked_by : StepsLine → RowAsks
-asked_by (line.Step kind door person) = record { kind = kind; door = door; person = person }
-asked_by line.Bad = record { kind = Unknown; door = 0; person = 0 }
+abbrev pub asked_by : Option StepRow → RowAsks
+asked_by (Some step) = record { kind = step.kind; door = step.at; person = step.person }
+asked_by None = record { kind = Unknown; door = 0; person = 0 }
 
 abbrev pub asked_in : List ℕ → RowAsks
 asked_in row = asked_by (row_says row)

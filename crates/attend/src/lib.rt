@@ -12,12 +12,11 @@ ghost use Rattle.attend.specs.Attend.{row_says, asked_by, shown_row, Attends};
 use deeds::Told;
 use grammar::cut::RowCut;
 use number_rows::put_row;
-use numbers::Paper;
-use phases::table::Kind;
+use numbers::{Numbered, Paper};
+use phases::table::{Kind, StepRow};
 use reader::row_at;
 use record::record::Record;
 use steps_row::steps_line_of;
-use steps_sheet::StepsLine;
 
 // What a row asks for: a step with its door and its person. A row of bad form asks for an unknown step.
 #[repr(C)]
@@ -45,19 +44,20 @@ pub struct Turn {
     pub attended: Attended,
 }
 
-// What the bytes of a row say, with its CRLF or without; no row, or more than one, is of bad form.
-fn row_says(row: &[u8]) -> StepsLine
+// The step that the bytes of a row say, with its CRLF or without; no row, or more than one, is of bad form.
+#[tactic(auto, unfolding(crate::specs::Attend::row_says))]
+fn row_says(row: &[u8]) -> Option<StepRow>
     ensures { result ≡ row_says row.now }
 {
     match row_at(row, 0) {
         RowCut::Cut(cells, next) => {
             if next != row.len() {
-                return StepsLine::Bad;
+                return None;
             }
             steps_line_of(row, cells)
         }
-        RowCut::NoRow => StepsLine::Bad,
-        RowCut::Broken(_) => StepsLine::Bad,
+        RowCut::NoRow => None,
+        RowCut::Broken(_) => None,
     }
 }
 
@@ -66,12 +66,12 @@ fn asked_in(row: &[u8]) -> RowAsks
     ensures { result ≡ asked_by (row_says row.now) }
 {
     match row_says(row) {
-        StepsLine::Step(kind, door, person) => RowAsks {
-            kind,
-            door: door as usize,
-            person: person as usize,
+        Some(step) => RowAsks {
+            kind: step.kind,
+            door: step.at as usize,
+            person: step.person as usize,
         },
-        StepsLine::Bad => RowAsks {
+        None => RowAsks {
             kind: Kind::Unknown,
             door: 0,
             person: 0,
@@ -83,17 +83,15 @@ fn asked_in(row: &[u8]) -> RowAsks
 fn put_shown(out: &mut [u8], number: usize, asked: RowAsks, told: Told) -> usize
     ensures { Wrote out.old 0 (shown_row number asked told) out.new result }
 {
-    let kind = asked.kind;
-    if let Kind::Unknown = kind {
+    if let Kind::Unknown = asked.kind {
         return put_row(out, 0, number, &[Paper::BAD_FORM as usize, 0, 0, 0]);
     }
-    let answer = told.answer;
     put_row(
         out,
         0,
         number,
         &[
-            answer.number() as usize,
+            told.answer.number() as usize,
             told.phase as usize,
             told.reason as usize,
             told.held,

@@ -3,11 +3,9 @@
 // writes how many tests said sound, or how many steps were done. bench/run counts its instructions.
 #![tactic(auto)]
 
-ghost use Rattle.std.specs.Prelude.{◌≤◌};
-
 use blank_lists::blank_sheet;
 use lending::lend;
-use numbers::Paper;
+use phases::answer::Answer;
 use phases::phase::Phase;
 use phases::table::Kind;
 use program_io::number_asked;
@@ -20,7 +18,8 @@ use tables::MOST_DOORS;
 // So many bytes of an argument are looked at.
 const MOST_WORD: usize = 4096;
 
-// The record with a grant at each door, of the person who has the door's number, who stands where it starts.
+// The record with a grant at each door, of the person who has the door's number, who stands where it starts. By the index, which is the
+// person.
 fn with_grants(mut record: Record) -> Record {
     for door in 0..MOST_DOORS {
         if door < record.doors {
@@ -32,33 +31,22 @@ fn with_grants(mut record: Record) -> Record {
     record
 }
 
-// 1 for what is so, to be counted.
-fn counted(so: bool) -> u64
-    ensures { result ≤ 1 }
-{
-    if so {
-        return 1;
-    }
-    0
-}
-
 // How many of so many tests say that the record is sound.
 fn tests_passed(rounds: usize, record: Record) -> u64 {
-    let mut passed = 0;
+    let mut passed = 0u64;
     for _ in 0..rounds {
-        passed += counted(record.is_sound());
+        passed = passed.saturating_add(u64::from(record.is_sound()));
     }
     passed
 }
 
 // How many of so many steps on the record are done, each at the next door.
 fn steps_done(rounds: usize, mut record: Record) -> u64 {
-    let mut done = 0;
+    let mut done = 0u64;
     for n in 0..rounds {
         let step = lend(record, Kind::Tick, n % MOST_DOORS, 0);
         record = step.next;
-        let answer = step.answer;
-        done += counted(answer.number() == Paper::DONE);
+        done = done.saturating_add(u64::from(step.answer == Answer::Done));
     }
     done
 }
@@ -69,16 +57,23 @@ fn second_word(rt: &impl Env) -> usize {
     rt.arg(2, &mut word).unwrap_or(0)
 }
 
-fn main(rt: HostRuntime) {
-    let mut sheet = blank_sheet();
-    let length = read_sheet(&rt, "site.csv", &mut sheet);
-    let site = read_site(&sheet[..length]);
-    let record = with_grants(site.record);
-    let rounds = number_asked(&rt, 1);
-    let done = if second_word(&rt) == 0 {
+// What is done with the record of a site.
+fn done(rt: &impl Env, fresh: Record) -> u64 {
+    let record = with_grants(fresh);
+    let rounds = number_asked(rt, 1);
+    if second_word(rt) == 0 {
         tests_passed(rounds, record)
     } else {
         steps_done(rounds, record)
+    }
+}
+
+fn main(rt: HostRuntime) {
+    let mut sheet = blank_sheet();
+    let length = read_sheet(&rt, "site.csv", &mut sheet);
+    let done = match read_site(&sheet[..length]) {
+        Ok(fresh) => done(&rt, fresh),
+        Err(_) => 0,
     };
     let _ = rt.print(done);
 }

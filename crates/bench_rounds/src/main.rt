@@ -3,7 +3,6 @@
 #![tactic(auto)]
 
 use blank_lists::{blank_panel_text, blank_sheet};
-use findings::Printed;
 use program_io::{number_asked, write_text};
 use run::texts::panel_text;
 use sheet_files::read_sheet;
@@ -12,16 +11,9 @@ use sheet_files::read_sheet;
 fn text_in_rounds<'a>(rounds: usize, site: &'a [u8], steps: &'a [u8], out: &'a mut [u8]) -> usize {
     let mut length = 0;
     for _ in 0..rounds {
-        length = text_once(site, steps, out);
+        length = panel_text(site, steps, out).unwrap_or(0);
     }
     length
-}
-
-fn text_once<'a>(site: &'a [u8], steps: &'a [u8], out: &'a mut [u8]) -> usize {
-    match panel_text(site, steps, out) {
-        Printed::Text(length) => length,
-        Printed::TooShort => 0,
-    }
 }
 
 fn main(rt: HostRuntime) {

@@ -1,4 +1,5 @@
-// Lists of zeros: for a sheet and for the two texts, which the programs lend, and for the rights of a site.
+// Lists of zeros: for a sheet and for the two texts, which the programs lend, and for the rights of a site. They are not one function of a
+// size, since each promises the size that its list has to have, and one function would promise whatever size it is asked for.
 #![tactic(auto)]
 
 ghost use Rattle.std.specs.Prelude.{◌+◌, ◌*◌, ◌≡◌, replicate, false};

@@ -20,7 +20,8 @@ use Rattle.phases.specs.declared.answer.Answer.{Answer}
 use Rattle.phases.specs.declared.answer.Answer.TheVariants.{Done}
 use Rattle.phases.specs.Answers.{answer_no}
 use Rattle.phases.specs.Phase.{free, read, walked, expired, closed, grants}
-use Rattle.phases.specs.Kinds.{StepRow, allows}
+use Rattle.phases.specs.declared.table.StepRow.{StepRow}
+use Rattle.phases.specs.Kinds.{allows}
 use Rattle.record.specs.declared.record.Record.{Record}
 use Rattle.record.specs.declared.steps.Step.{Step}
 use Rattle.record.specs.Doors.{door_of, Shaped}

@@ -9,7 +9,7 @@ use lib.Dec.{eqb}
 use Rattle.record.specs.declared.record.Record.{Record}
 use Rattle.record.specs.declared.steps.Step.{Step}
 use Rattle.phases.specs.declared.answer.Answer.TheVariants.{Done}
-use Rattle.phases.specs.Kinds.{StepRow}
+use Rattle.phases.specs.declared.table.StepRow.{StepRow}
 use Rattle.phases.specs.Answers.{reason_none, reason_busy}
 use Rattle.record.specs.Run.{Reply, reply_by, row_of}
 use Rattle.run_events.specs.Events.{What, Grant, Denial, Passage, Lapse, RunEvent}

@@ -9,7 +9,7 @@ use Rattle.door.specs.Door.{free_door}
 use Rattle.record.specs.Doors.{plan_of, door_of}
 use Rattle.tables.specs.Zero.{zeros}
 use Rattle.record.specs.Run.{last_of}
-use Rattle.phases.specs.Kinds.{StepRow}
+use Rattle.phases.specs.declared.table.StepRow.{StepRow}
 use Rattle.run_events.specs.Lines.{Line, heard_of}
 use Rattle.run_events.specs.Events.{RunEvent, no_spells, spells_in}
 use Rattle.run_events.specs.Told.{Standing, Free, standing, standing_at, TellsTruly}

@@ -18,7 +18,8 @@ use Rattle.phases.specs.Answers.{answer_no}
 use Rattle.phases.specs.Phase.{read, green, walked, expired, red, keeps, grants}
 use Rattle.record.specs.Doors.{door_of, Shaped}
 use Rattle.record.specs.Sound.{Sound}
-use Rattle.phases.specs.Kinds.{StepRow, allows}
+use Rattle.phases.specs.declared.table.StepRow.{StepRow}
+use Rattle.phases.specs.Kinds.{allows}
 use Rattle.door_does.specs.declared.Does.{Does}
 use Rattle.door_does.specs.Does.{effect}
 use Rattle.record.specs.Steps.{reason_for, First, held_for, act, refused, doing}

@@ -26,7 +26,8 @@ use Rattle.record.specs.Deeds.{holding}
 use Rattle.granting.specs.Grants.{GrantAt}
 use Rattle.granting.specs.Reasons.{held_with}
 use Rattle.record.specs.Sound.{Sound}
-use Rattle.phases.specs.Kinds.{StepRow, allows, names_person}
+use Rattle.phases.specs.declared.table.StepRow.{StepRow}
+use Rattle.phases.specs.Kinds.{allows, names_person}
 use Rattle.door_does.specs.declared.Does.TheVariants.{Turns}
 use Rattle.door_does.specs.Does.{effect}
 use Rattle.record.specs.Steps.{reason_for, Admitted, First, none, away, barred, busy, held_for, act, step_of}

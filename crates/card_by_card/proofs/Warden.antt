@@ -15,7 +15,7 @@ use Rattle.record.specs.declared.record.Record.{Record}
 use Rattle.phases.specs.declared.table.Kind.{Kind}
 use Rattle.phases.specs.declared.table.Kind.TheVariants.{Card, Decide, Passed}
 use Rattle.record.specs.Run.{last_of}
-use Rattle.phases.specs.Kinds.{StepRow}
+use Rattle.phases.specs.declared.table.StepRow.{StepRow}
 use Rattle.tables.proofs.Cases.{same_or_not}
 use Rattle.record.proofs.Laws.{places_stay}
 use Rattle.run_events.specs.Events.{What, Grant, Denial, Passage, Lapse, RunEvent}

@@ -11,7 +11,8 @@ use Rattle.phases.specs.Answers.{reason_busy}
 use Rattle.door.specs.Door.{free_door}
 use Rattle.record.specs.Doors.{plan_of, door_of, fresh_record, Shaped}
 use Rattle.record.specs.Sound.{Sound}
-use Rattle.phases.specs.Kinds.{StepRow, number_of_kind, names_person}
+use Rattle.phases.specs.declared.table.StepRow.{StepRow}
+use Rattle.phases.specs.Kinds.{number_of_kind, names_person}
 use Rattle.record.specs.Run.{Reply, reply_by, row_of, last_of}
 use Rattle.run_events.specs.Lines.{Line, heard_of}
 use Rattle.run_events.specs.Events.{What, Denial, Passage, Lapse, RunEvent, no_spells, spells_in, events_in}

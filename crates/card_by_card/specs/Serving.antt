@@ -6,7 +6,7 @@ use Rattle.phases.specs.declared.table.Kind.{Kind}
 use Rattle.phases.specs.declared.table.Kind.TheVariants.{Card, Decide, Green, Red, Walk, Tick, Passed, Lapsed, Dark, Ack}
 use Rattle.phases.specs.Phase.{green_span, red_span}
 use Rattle.phases.specs.Answers.{reason_busy}
-use Rattle.phases.specs.Kinds.{StepRow}
+use Rattle.phases.specs.declared.table.StepRow.{StepRow}
 use Rattle.run_events.specs.Events.{What, Grant, Denial, Passage, Lapse, RunEvent, events_in}
 
 -- ---- what was recorded

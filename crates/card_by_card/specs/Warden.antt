@@ -3,7 +3,7 @@ use Rattle.std.specs.Prelude.{ℕ, ◌<◌, ◌≡◌, Bool, true, false, cond, 
 use Rattle.record.specs.declared.record.Record.{Record}
 use Rattle.phases.specs.declared.table.Kind.TheVariants.{Card, Decide}
 use Rattle.record.specs.Run.{last_of}
-use Rattle.phases.specs.Kinds.{StepRow}
+use Rattle.phases.specs.declared.table.StepRow.{StepRow}
 use Rattle.run_events.specs.Events.{What, Grant, Denial, Passage, Lapse, RunEvent}
 use Rattle.card_by_card.specs.Serving.{recorded_in, services}
 use Rattle.card_by_card.specs.Served.{Acts, Decides}

@@ -10,12 +10,11 @@ use lib.ListN.{length, get_or, drop, length-append, length-drop}
 use lib.Seq.{drop-drop, take-append_seam}
 use lib.Dec.{eqb}
 use borrow.Author.Tests.{eq-eqb, ne_eqb, eqb-true, le-leb}
+use Rattle.std.specs.Prelude.{Option, Some, None}
 use Rattle.grammar.specs.declared.cut.Cell.{Cell}
 use Rattle.grammar.specs.declared.cut.Cells.{Cells}
 use Rattle.grammar.specs.Grammar.{quote, Field, bare, quoted, content, escape, field_text, Row}
 use Rattle.grammar.specs.Where.{holds_quote, cell_of, field_of, CellHolds, RowHolds}
-use Rattle.cell_meaning.specs.declared.Number.{Number}
-use Rattle.cell_meaning.specs.declared.Number.TheVariants.{Is, None}
 use Rattle.cell_meaning.specs.Say.{Digit, content_at, same_bytes, is_word, says_words, number_in, number_at, ProperNumber}
 use Rattle.cell_meaning.specs.Meaning.{Threefold}
 use Rattle.cell_meaning.proofs.Saying.{same_self, same_true, same_false, untrue, proper_read, read_proper}
@@ -124,14 +123,14 @@ digits_no_quote (b ∷ c) d =
     rw (ne_eqb b quote n) (digits_no_quote c (λ i h. d (suc i) (omega arith)))
 
 -- a number is read exactly when the field's content is a proper one, with its value
-pub number_exact : (s : List ℕ) {cell : Cell} (f : Field) (n : ℕ) → CellHolds s cell f → (number_at s cell ≡ Is n) ↔ ProperNumber (content f) n
+pub number_exact : (s : List ℕ) {cell : Cell} (f : Field) (n : ℕ) → CellHolds s cell f → (number_at s cell ≡ Some n) ↔ ProperNumber (content f) n
 unfolding number_at
 number_exact s {cell} f n h = go (cell_tells s f h)
   where
-    go : CellTells s cell f → (number_at s cell ≡ Is n) ↔ ProperNumber (content f) n
+    go : CellTells s cell f → (number_at s cell ≡ Some n) ↔ ProperNumber (content f) n
     go (whole d e) = ((λ t. read_proper (content f) (rw (e, d) at t)), (λ p. rw (e, d) (proper_read (content f) p)))
     go (with_quote d q) = (
-      (λ t. let z : None ≡ Is n = rw d at t in let y : ◌≡◌ {A = ℕ} 0 1 = cc in absurd (omega arith)),
+      (λ t. let z : None ≡ Some n = rw d at t in let y : ◌≡◌ {A = ℕ} 0 1 = cc in absurd (omega arith)),
       (λ p. untrue (sym q ∙ digits_no_quote (content f) p.digits)),
     )
 
@@ -147,8 +146,8 @@ word_same s {cell} f w h n = go (cell_tells s f h)
 number_none : (c : List ℕ) → holds_quote c ≡ true → number_in c ≡ None
 number_none c q = go (number_in c) refl
   where
-    go : (x : Number) → number_in c ≡ x → x ≡ None
-    go (Is n) e = untrue (sym q ∙ digits_no_quote c (read_proper c e).digits)
+    go : (x : Option ℕ) → number_in c ≡ x → x ≡ None
+    go (Some n) e = untrue (sym q ∙ digits_no_quote c (read_proper c e).digits)
     go None e = refl
 
 pub number_same : (s : List ℕ) {cell : Cell} (f : Field) → CellHolds s cell f → number_at s cell ≡ number_in (content f)

@@ -10,8 +10,8 @@ use mathlib.Core.List.{List, [], ◌∷◌}
 use lib.ListN.{length, get_or, drop, drop_of_length-le}
 use lib.Dec.{ltb, eqb}
 use borrow.Author.Tests.{ltb-true, ltb-false, le-ltb, eqb-true, eqb-false, eq-eqb, ne_eqb}
+use Rattle.std.specs.Prelude.{Some, None}
 use Rattle.grammar.specs.declared.cut.Cell.{Cell}
-use Rattle.cell_meaning.specs.declared.Number.TheVariants.{Is, None}
 use Rattle.cell_meaning.specs.Say.{Digit, value_from, ProperNumber, same_bytes, digits_from, needless_zero, number_in, number_at}
 use Rattle.grammar.specs.Sizes.{width}
 use Rattle.grammar.proofs.Steps.{here}
@@ -102,7 +102,7 @@ module _ {c : List ℕ} {value i : ℕ} (so : DigitsSoFar c value i) where
         within = omega arith;
       }
 
-  pub digits_end : length c ≤ i → digits_from 0 c ≡ Is value
+  pub digits_end : length c ≤ i → digits_from 0 c ≡ Some value
   unfolding digits_from
   digits_end h = so.answer ∙ rw (drop_of_length-le c h)
 
@@ -115,13 +115,13 @@ digits_start c = record { answer = refl; small = omega arith; within = omega ari
 pub untrue : {A : Type 0} → true ≡ false → A
 untrue e = let z : ◌≡◌ {A = ℕ} 0 1 = cc in absurd (omega arith)
 
-pub none_is_some : {n : ℕ} {A : Type 0} → None ≡ Is n → A
+pub none_is_some : {n : ℕ} {A : Type 0} → None ≡ Some n → A
 none_is_some e = let z : ◌≡◌ {A = ℕ} 0 1 = cc in absurd (omega arith)
 
 abbrev AllDigits : List ℕ → Type 0
 AllDigits c = (i : ℕ) → i < length c → Digit (get_or c i 0)
 
-digits_value : (v : ℕ) (c : List ℕ) → AllDigits c → digits_from v c ≡ Is (value_from v c)
+digits_value : (v : ℕ) (c : List ℕ) → AllDigits c → digits_from v c ≡ Some (value_from v c)
 unfolding digits_from value_from
 digits_value v [] d = refl
 digits_value v (b ∷ c) d =
@@ -132,7 +132,7 @@ record DigitsAre (v n : ℕ) (c : List ℕ) : Type 0 where
   digits : AllDigits c
   value : n ≡ value_from v c
 
-digits_are : (v : ℕ) (c : List ℕ) {n : ℕ} → digits_from v c ≡ Is n → DigitsAre v n c
+digits_are : (v : ℕ) (c : List ℕ) {n : ℕ} → digits_from v c ≡ Some n → DigitsAre v n c
 unfolding digits_from value_from
 digits_are v [] {n} e = record { digits = λ i h. absurd (omega arith); value = cc }
 digits_are v (b ∷ c) {n} e = low (ltb b 48) refl (λ h. digits_are (v * 10 + (b - 48)) c h)
@@ -141,13 +141,13 @@ digits_are v (b ∷ c) {n} e = low (ltb b 48) refl (λ h. digits_are (v * 10 + (
     all d ds zero h = d
     all d ds (suc i) h = ds i (omega arith)
 
-    high : (q : Bool) → ltb b 48 ≡ false → ltb 57 b ≡ q → (digits_from (v * 10 + (b - 48)) c ≡ Is n → DigitsAre (v * 10 + (b - 48)) n c) → DigitsAre v n (b ∷ c)
+    high : (q : Bool) → ltb b 48 ≡ false → ltb 57 b ≡ q → (digits_from (v * 10 + (b - 48)) c ≡ Some n → DigitsAre (v * 10 + (b - 48)) n c) → DigitsAre v n (b ∷ c)
     high true p q more = none_is_some (rw (p, q) at e)
     high false p q more =
         let m = more (rw (p, q) at e) in
         record { digits = all (record { from = ltb-false b 48 p; to = ltb-false 57 b q }) m.digits; value = m.value }
 
-    low : (q : Bool) → ltb b 48 ≡ q → (digits_from (v * 10 + (b - 48)) c ≡ Is n → DigitsAre (v * 10 + (b - 48)) n c) → DigitsAre v n (b ∷ c)
+    low : (q : Bool) → ltb b 48 ≡ q → (digits_from (v * 10 + (b - 48)) c ≡ Some n → DigitsAre (v * 10 + (b - 48)) n c) → DigitsAre v n (b ∷ c)
     low true p more = none_is_some (rw p at e)
     low false p more = high (ltb 57 b) p refl more
 
@@ -168,14 +168,14 @@ needless_not c z h = go (ltb (length c) 2) refl
     go false q = absurd (eqb-false (get_or c 0 0) 48 (rw q at z) h)
 
 -- a proper number is read, with its value
-pub proper_read : (c : List ℕ) {n : ℕ} → ProperNumber c n → number_in c ≡ Is n
+pub proper_read : (c : List ℕ) {n : ℕ} → ProperNumber c n → number_in c ≡ Some n
 unfolding number_in
 proper_read c p =
     let a : length c ≡ 0 → ⊥ = λ e. let s = p.some in omega arith in
     rw (ne_eqb (length c) 0 a, le-ltb width (length c) p.few, needless_none c p.no_needless_zero, p.value) (digits_value 0 c p.digits)
 
 -- and only a proper number is read
-pub read_proper : (c : List ℕ) {n : ℕ} → number_in c ≡ Is n → ProperNumber c n
+pub read_proper : (c : List ℕ) {n : ℕ} → number_in c ≡ Some n → ProperNumber c n
 unfolding number_in
 read_proper c {n} e = go₁ (eqb (length c) 0) refl
   where
@@ -216,7 +216,7 @@ proper_small c n p =
     omega arith
 
 -- and so is a field that is a number
-pub number_small : (s : List ℕ) (cell : Cell) {n : ℕ} → number_at s cell ≡ Is n → n < 10 ^ width
+pub number_small : (s : List ℕ) (cell : Cell) {n : ℕ} → number_at s cell ≡ Some n → n < 10 ^ width
 unfolding number_at
 number_small s cell {n} e = go cell.doubled refl
   where

@@ -6,11 +6,11 @@ use mathlib.Core.Logic.{◌↔◌}
 use mathlib.Core.Bool.{false, true}
 use mathlib.Core.List.{List, [], ◌∷◌}
 use lib.ListN.{length}
+use Rattle.std.specs.Prelude.{Some}
 use Rattle.grammar.specs.declared.cut.Cell.{Cell}
 use Rattle.grammar.specs.declared.cut.Cells.{Cells}
 use Rattle.grammar.specs.Grammar.{Field, content, Row}
 use Rattle.grammar.specs.Where.{holds_quote, CellHolds, RowHolds}
-use Rattle.cell_meaning.specs.declared.Number.TheVariants.{Is}
 use Rattle.cell_meaning.specs.Say.{ProperNumber, is_word, says_words, number_at, place_among}
 use Rattle.cell_meaning.specs.Meaning.{Threefold, WordAt}
 use Rattle.cell_meaning.proofs.Contents as contents
@@ -37,5 +37,5 @@ module _ (s : List ℕ) where
   words_are_contents r x y z h a b c = contents.words_exact s r x y z h a b c
 
   -- A number is read exactly when the field's content is a proper number, with its value.
-  pub number_is_proper : {cell : Cell} (f : Field) (n : ℕ) → CellHolds s cell f → (number_at s cell ≡ Is n) ↔ ProperNumber (content f) n
+  pub number_is_proper : {cell : Cell} (f : Field) (n : ℕ) → CellHolds s cell f → (number_at s cell ≡ Some n) ↔ ProperNumber (content f) n
   number_is_proper f n h = contents.number_exact s f n h

@@ -1,10 +1,8 @@
 -- What a field says, by its content: a word, or a proper number. 01, "Site sheet".
-use Rattle.std.specs.Prelude.{ℕ, ◌+◌, ◌-◌, ◌*◌, ◌≤◌, ◌<◌, ◌≡◌, Bool, true, false, cond, List, [], ◌∷◌, length, get_or, take, drop, leb, ltb, eqb}
+use Rattle.std.specs.Prelude.{ℕ, ◌+◌, ◌-◌, ◌*◌, ◌≤◌, ◌<◌, ◌≡◌, Bool, true, false, cond, List, [], ◌∷◌, length, get_or, take, drop, leb, ltb, eqb, Option, Some, None}
 use Rattle.grammar.specs.Sizes.{width}
 use Rattle.grammar.specs.declared.cut.Cell.{Cell}
 use Rattle.grammar.specs.declared.cut.Cells.{Cells}
-use Rattle.cell_meaning.specs.declared.Number.{Number}
-use Rattle.cell_meaning.specs.declared.Number.TheVariants.{Is, None}
 
 pub record Digit (b : ℕ) : Type 0 where
   pub from : 48 ≤ b
@@ -23,14 +21,14 @@ pub record ProperNumber (c : List ℕ) (n : ℕ) : Type 0 where
   pub value : n ≡ value_from 0 c
 
 -- the same as a test
-unfoldable pub digits_from : ℕ → List ℕ → Number
-digits_from n [] = Is n
+unfoldable pub digits_from : ℕ → List ℕ → Option ℕ
+digits_from n [] = Some n
 digits_from n (b ∷ bs) = cond (ltb b 48) None (cond (ltb 57 b) None (digits_from (n * 10 + (b - 48)) bs))
 
 unfoldable pub needless_zero : List ℕ → Bool
 needless_zero c = cond (ltb (length c) 2) false (eqb (get_or c 0 0) 48)
 
-unfoldable pub number_in : List ℕ → Number
+unfoldable pub number_in : List ℕ → Option ℕ
 number_in c = cond (eqb (length c) 0) None (cond (ltb width (length c)) None (cond (needless_zero c) None (digits_from 0 c)))
 
 -- the bytes of a cell; none where it doesn't lie in the sheet
@@ -49,7 +47,7 @@ same_bytes (x ∷ xs) (y ∷ ys) = cond (eqb x y) (same_bytes xs ys) false
 unfoldable pub is_word : List ℕ → Cell → List ℕ → Bool
 is_word s cell word = cond cell.doubled false (same_bytes (content_at s cell) word)
 
-unfoldable pub number_at : List ℕ → Cell → Number
+unfoldable pub number_at : List ℕ → Cell → Option ℕ
 number_at s cell = cond cell.doubled None (number_in (content_at s cell))
 
 -- the place of a content among some words, counted from 0; behind them all where it is none of them

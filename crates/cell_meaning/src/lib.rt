@@ -1,14 +1,5 @@
 // What a cell of a sheet says, words and numbers: definitions and theorems, no functions.
 //
-// The type is that which `cells` answers with. specs/Say.antt says what a word and a proper number are, and proofs/Theorems.antt
-// shows that what its tests answer of a cell is what the content of the field says.
+// specs/Say.antt says what a word and a proper number are, and proofs/Theorems.antt shows that what its tests answer of a cell is what
+// the content of the field says.
 #![tactic(auto)]
-
-// What a field says as a number.
-#[derive(Clone, Copy)]
-pub enum Number {
-    // this number
-    Is(usize),
-    // it is no proper number
-    None,
-}

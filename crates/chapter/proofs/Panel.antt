@@ -13,7 +13,7 @@ use Rattle.record.specs.Doors.{Shaped}
 use Rattle.record.specs.Sound.{Sound}
 use Rattle.record.specs.Steps.{step_of}
 use Rattle.record.specs.Run.{row_of, last_of}
-use Rattle.phases.specs.Kinds.{StepRow}
+use Rattle.phases.specs.declared.table.StepRow.{StepRow}
 use Rattle.record.proofs.Laws.{refused_stays, sound_stays, shaped_stays, plan_stays, rights_stay}
 use Rattle.machines.specs.Context.{Constants, Axioms}
 use Rattle.machines.specs.Machines.{Same, Move, event, skip, MachineStep}

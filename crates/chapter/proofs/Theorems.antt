@@ -35,7 +35,7 @@ use Rattle.record.specs.Doors.{fresh_record, Shaped}
 use Rattle.record.specs.Sound.{Sound}
 use Rattle.record.specs.Steps.{step_of}
 use Rattle.record.specs.Run.{last_of}
-use Rattle.phases.specs.Kinds.{StepRow}
+use Rattle.phases.specs.declared.table.StepRow.{StepRow}
 use Rattle.record.proofs.Laws.{refused_stays}
 use Rattle.machines.specs.Context.{Constants, Axioms, SAF-1, SAF-2, SAF-3, Leads}
 use Rattle.machines.specs.Machines.{State, Same}

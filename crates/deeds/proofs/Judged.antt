@@ -1,23 +1,21 @@
 -- What the tests of `judge` tell: a law for each of its answers. Assumes nothing.
 use Prim.Native.Nat.{ℕ, ◌≤◌, ◌<◌}
 use mathlib.Core.Path.{◌≡◌, refl, sym, ap, ◌∙◌}
-use mathlib.Core.Bool.{Bool, true, false, not}
+use mathlib.Core.Bool.{Bool, false, not}
 use mathlib.Core.List.{List}
-use borrow.Author.Tests.{ltb-true, lt-ltb, le-ltb, not-true, not-false}
+use borrow.Author.Tests.{ltb-true, le-ltb, not-false}
 use lib.ListN.{get_or}
 use lib.Dec.{ltb}
 use Rattle.tables.specs.Tables.{Plan, or_else, most_people}
 use Rattle.tables.proofs.Laws.{and_right}
 use Rattle.phases.specs.declared.table.Kind.{Kind}
 use Rattle.phases.specs.declared.table.Kind.TheVariants.{Card, Decide, Green, Red, Walk, Tick, Passed, Lapsed, Dark, Ack, Unknown}
-use Rattle.phases.specs.declared.answer.Answer.TheVariants.{NoSuch, NotAllowed, Unsound}
 use Rattle.phases.specs.Table.{asked}
 use Rattle.door.specs.declared.Door.{Door}
 use Rattle.door_does.specs.declared.Does.{Does}
 use Rattle.door.specs.Door.{door_in}
 use Rattle.door_does.specs.Does.{effect}
 use Rattle.granting.specs.Reasons.{first_reason}
-use Rattle.deeds.specs.declared.Deed.TheVariants.{Tells}
 use Rattle.deeds.specs.Deeds.{exist_among, deed_of, judged_of}
 
 -- only `card` looks at the person, and only `decide` at the reason
@@ -40,26 +38,14 @@ pub card_person : (people doors : ℕ) (k : Kind) (d p : ℕ) (e : Bool) → e �
 unfolding exist_among or_else
 card_person people doors k d p e exists some card = ltb-true p people (rw card at (and_right (ltb d doors) _ (sym exists ∙ not-false e some)))
 
--- e is whether the numbers exist, a what the table says of the door's phase
-module _ (site : Plan) (right : List Bool) (place phase holder count : List ℕ) (k : Kind) (d p : ℕ) where
-  pub judged_crowded : most_people < site.people → Tells Unsound 0 ≡ judged_of site right place phase holder count k d p
-  unfolding judged_of
-  judged_crowded many = rw (lt-ltb most_people site.people many)
-
-  module _ (room : site.people ≤ most_people) (e : Bool) (exists : e ≡ exist_among site.people site.doors k d p) where
-    pub judged_none : not e ≡ true → Tells NoSuch 0 ≡ judged_of site right place phase holder count k d p
-    unfolding judged_of
-    judged_none no_such = rw (le-ltb most_people site.people room, ← exists, not-true e no_such)
-
-    module _ (some : not e ≡ false) (a : Bool) (now : Door) (is : now ≡ door_in phase holder count d) (says : a ≡ asked k now.phase) where
-      pub judged_barred : not a ≡ true → Tells NotAllowed now.phase ≡ judged_of site right place phase holder count k d p
-      unfolding judged_of
-      judged_barred barred = rw (is, le-ltb most_people site.people room, ← exists, not-false e some, ← (rw is at says), not-true a barred)
-
-      pub judged_done : not a ≡ false → (q why : ℕ) → (k ≡ Card → q ≡ p) → (k ≡ Decide → why ≡ first_reason site right place phase holder d now.holder)
-          → (does : Does) → does ≡ effect k q why now → (to : ℕ) → to ≡ get_or site.destination d 0
-          → deed_of does now.phase now.holder to site.doors phase holder ≡ judged_of site right place phase holder count k d p
-      unfolding judged_of
-      judged_done allowed q why person reason does effects to leads =
-          rw (effects, leads, is, le-ltb most_people site.people room, ← exists, not-false e some, ← (rw is at says), not-false a allowed)
-          (ap (λ (x : Does). deed_of x (get_or phase d 0) (get_or holder d 0) (get_or site.destination d 0) site.doors phase holder) (same_effect k q p why _ (door_in phase holder count d) person (rw is at reason)))
+-- what is done where the step may be done: e is whether the numbers exist, a what the table says of the door's phase
+pub judged_done : (site : Plan) (right : List Bool) (place phase holder count : List ℕ) (k : Kind) (d p : ℕ)
+    → site.people ≤ most_people → (e : Bool) → e ≡ exist_among site.people site.doors k d p → not e ≡ false
+    → (now : Door) → now ≡ door_in phase holder count d → (a : Bool) → a ≡ asked k now.phase → not a ≡ false
+    → (q why : ℕ) → (k ≡ Card → q ≡ p) → (k ≡ Decide → why ≡ first_reason site right place phase holder d now.holder)
+    → (does : Does) → does ≡ effect k q why now → (to : ℕ) → to ≡ get_or site.destination d 0
+    → deed_of does now.phase now.holder to site.doors phase holder ≡ judged_of site right place phase holder count k d p
+unfolding judged_of
+judged_done site right place phase holder count k d p room e exists some now is a says allowed q why person reason does effects to leads =
+    rw (effects, leads, is, le-ltb most_people site.people room, ← exists, not-false e some, ← (rw is at says), not-false a allowed)
+    (ap (λ (x : Does). deed_of x (get_or phase d 0) (get_or holder d 0) (get_or site.destination d 0) site.doors phase holder) (same_effect k q p why _ (door_in phase holder count d) person (rw is at reason)))

@@ -1,2 +1,2 @@
 -- What the tests of `judge` tell.
-mod Judged
+pub mod Judged

@@ -1,26 +1,28 @@
 // What a step does and tells, judged on lent lists and carried out on them. The lists are those of a
-// record, of which nothing else is needed here; any list of any length is answered.
+// record, of which nothing else is needed here; any list of any length is judged.
 #![tactic(auto)]
 
-ghost use Rattle.std.specs.Prelude.{◌≡◌, List, ℕ, ◌<◌, set};
-ghost use Rattle.tables.specs.Tables.{plan, most_people};
+ghost use Rattle.std.specs.Prelude.{◌≡◌, ◌^◌, ◌<◌, set};
+ghost use Rattle.rules.specs.Lent.{plan_lent};
 ghost use Rattle.granting.specs.Reasons.{first_reason};
 ghost use Rattle.deeds.specs.Deeds.{exist_among, deed_of, judged_of};
 ghost use Rattle.deeds.specs.Deeds.{told_of, places_after, phases_after, holders_after, counts_after};
 
-use door::Door;
+use door::{Door, Doors};
 use door_does::Does;
 use door_does::step::does;
 use granting::{first_reason, held_with};
-use lists::{byte_at, put_byte, put_word};
+use lists::{entry_at, put_entry};
 use phases::answer::{Answer, Reason};
 use phases::table::Kind;
+use rules::Tables;
 use tables::{MOST_DOORS, MOST_PEOPLE};
 
 // The phase that is told where there is no door to tell it of.
 pub const UNTOLD: u8 = 0;
 
-// What a step tells.
+// What a step tells. Its four fields are always there: numbers that the papers have for none stand in them, and no `Option`, since
+// `told_of` and the rows of a run say these numbers.
 #[repr(C)]
 #[derive(Clone, Copy)]
 pub struct Told {
@@ -28,6 +30,20 @@ pub struct Told {
     pub phase: u8,
     pub reason: u8,
     pub held: usize,
+}
+
+impl Told {
+    // This answer and this phase, with no reason.
+    fn with_no_reason(answer: Answer, phase: u8) -> Self
+        ensures { result ≡ told_of (Deed.Tells answer phase) }
+    {
+        Told {
+            answer,
+            phase,
+            reason: Reason::NONE,
+            held: 0,
+        }
+    }
 }
 
 // What is done at a door.
@@ -41,195 +57,119 @@ pub enum Deed {
     Leads(Door, usize, u8),
 }
 
-// The reason to deny this person this door, which only `decide` asks for.
-fn reason_for<'a>(
-    kind: Kind,
-    doors: usize,
-    origin: &'a [u8],
-    destination: &'a [u8],
-    right: &'a [bool],
-    place: &'a [u8],
-    phase: &'a [u8],
-    holder: &'a [u16],
-    door: usize,
-    person: usize,
-) -> u8
-    ensures { kind ≡ Kind.Decide → (people locations : ℕ) (exit : List ℕ) → result ≡ first_reason (plan people locations doors origin.now destination.now exit) right.now place.now phase.now holder.now door person }
-{
-    let Kind::Decide = kind else {
-        return Reason::NONE;
-    };
-    first_reason(
-        doors,
-        origin,
-        destination,
-        right,
-        place,
-        phase,
-        holder,
-        door,
-        person,
-    )
-}
-
-// The person of a card, who exists.
-fn person_named(kind: Kind, person: usize) -> u16
-    requires { kind ≡ Kind.Card → person < most_people }
-    ensures { kind ≡ Kind.Card → result ≡ person }
-{
-    let Kind::Card = kind else {
-        return 0;
-    };
-    person as u16
-}
-
-// The deed that a step does at a door that is in this phase, holds this person and leads to this location, among so many
-// doors in these phases and with these persons.
-fn deed_of<'a>(
-    does: Does,
-    current: u8,
-    person: usize,
-    to: u8,
-    doors: usize,
-    phase: &'a [u8],
-    holder: &'a [u16],
-) -> Deed
-    ensures { result ≡ deed_of does current person to doors phase.now holder.now }
-{
-    match does {
-        Does::Stays => Deed::Tells(Answer::Done, current),
-        Does::Turns(so, reason) => {
-            Deed::Puts(so, reason, held_with(reason, doors, phase, holder, person))
-        }
-        Does::Moves(so) => Deed::Leads(so, person, to),
-    }
-}
-
 // Do the door and, of a card, the person exist?
-fn exist(people: usize, doors: usize, kind: Kind, door: usize, person: usize) -> bool
-    ensures { result ≡ exist_among people doors kind door person }
+#[tactic(auto, using(std::proofs::lemmas::Bool::Decides::nat_tests, phases::proofs::Steps::others_name_none), unfolding(tables::specs::Tables::and_also, tables::specs::Tables::or_else, crate::specs::Deeds::exist_among))]
+fn exist(site: Tables, kind: Kind, door: usize, person: usize) -> bool
+    ensures { result ≡ exist_among site.entry.people site.entry.doors kind door person }
 {
-    if doors <= door {
-        return false;
-    }
-    let Kind::Card = kind else {
-        return true;
-    };
-    person < people
+    door < site.doors && (kind != Kind::Card || person < site.people)
 }
 
+// The reason to deny this person this door, which only `decide` asks for.
+fn reason_for(kind: Kind, site: Tables, place: &[u8], so: Doors, door: usize, person: usize) -> u8
+    ensures { kind ≡ Kind.Decide → result ≡ first_reason (plan_lent site.entry) site.entry.right.now place.now so.entry.phase.now so.entry.holder.now door person }
+{
+    match kind {
+        Kind::Decide => first_reason(site, place, so, door, person),
+        _ => Reason::NONE,
+    }
+}
+
+// The deed that a step does at a door that is so now and leads to this location, among so many doors.
+fn deed_of(does: Does, now: Door, to: u8, doors: usize, so: Doors) -> Deed
+    ensures { result ≡ deed_of does now.phase now.holder to doors so.entry.phase.now so.entry.holder.now }
+{
+    let person = now.holder as usize;
+    match does {
+        Does::Stays => Deed::Tells(Answer::Done, now.phase),
+        Does::Turns(next, reason) => {
+            Deed::Puts(next, reason, held_with(reason, doors, so, person))
+        }
+        Does::Moves(next) => Deed::Leads(next, person, to),
+    }
+}
+
+// The tables and the doors go in one piece each, the places beside them: of a run the doors and places move, the tables don't.
 // A step's deed: 14 where there is no room for so many people, then 11, then 12, then the step's own
 // work.
-pub fn judge<'a>(
-    people: usize,
-    doors: usize,
-    origin: &'a [u8],
-    destination: &'a [u8],
-    right: &'a [bool],
-    place: &'a [u8],
-    phase: &'a [u8],
-    holder: &'a [u16],
-    count: &'a [u16],
-    kind: Kind,
-    door: usize,
-    person: usize,
-) -> Deed
-    ensures { (locations : ℕ) (exit : List ℕ) → result ≡ judged_of (plan people locations doors origin.now destination.now exit) right.now place.now phase.now holder.now count.now kind door person }
+#[tactic(auto, using(std::proofs::lemmas::Bool::Decides::nat_tests), unfolding(crate::specs::Deeds::judged_of))]
+pub fn judge(site: Tables, place: &[u8], so: Doors, kind: Kind, door: usize, person: usize) -> Deed
+    ensures { result ≡ judged_of (plan_lent site.entry) site.entry.right.now place.now so.entry.phase.now so.entry.holder.now so.entry.count.now kind door person }
 {
-    if MOST_PEOPLE < people {
+    if MOST_PEOPLE < site.people {
         return Deed::Tells(Answer::Unsound, UNTOLD);
     }
-    if !exist(people, doors, kind, door, person) {
+    if !exist(site, kind, door, person) {
         return Deed::Tells(Answer::NoSuch, UNTOLD);
     }
-    let named = person_named(kind, person);
-    let now = Door::among(phase, holder, count, door);
+    let now = so.at(door);
     if !kind.allowed_in(now.phase) {
         return Deed::Tells(Answer::NotAllowed, now.phase);
     }
-    let shown = now.holder as usize;
-    let why = reason_for(
-        kind,
-        doors,
-        origin,
-        destination,
-        right,
-        place,
-        phase,
-        holder,
-        door,
-        shown,
-    );
+    let named = u16::try_from(person).unwrap_or(0);
+    let why = reason_for(kind, site, place, so, door, now.holder as usize);
     let done = does(now, kind, named, why);
-    deed_of(
-        done,
-        now.phase,
-        shown,
-        byte_at(destination, door),
-        doors,
-        phase,
-        holder,
-    )
+    deed_of(done, now, entry_at(site.destination, door), site.doors, so)
 }
 
-// The lists with this door so.
-fn put_door<'a>(
-    door: usize,
-    so: Door,
-    phase: &'a mut [u8; MOST_DOORS],
-    holder: &'a mut [u16; MOST_DOORS],
-    count: &'a mut [u16; MOST_DOORS],
-)
-    ensures phases { phase.new ≡ set phase.old door so.phase }
-    ensures holders { holder.new ≡ set holder.old door so.holder }
-    ensures counts { count.new ≡ set count.old door so.count }
-{
-    put_byte(phase, door, so.phase);
-    put_word(holder, door, so.holder);
-    put_word(count, door, so.count);
+// The lists that steps alter: where each person is, and of each door its phase, its person and its countdown.
+#[derive(Clone, Copy)]
+pub struct Moving {
+    pub place: [u8; MOST_PEOPLE],
+    pub phase: [u8; MOST_DOORS],
+    pub holder: [u16; MOST_DOORS],
+    pub count: [u16; MOST_DOORS],
 }
 
-// Carries a deed out: the lists hold what they hold after the step.
-pub fn carry_out<'a>(
-    deed: Deed,
-    door: usize,
-    place: &'a mut [u8; MOST_PEOPLE],
-    phase: &'a mut [u8; MOST_DOORS],
-    holder: &'a mut [u16; MOST_DOORS],
-    count: &'a mut [u16; MOST_DOORS],
-) -> Told
-    ensures told { result ≡ told_of deed }
-    ensures places { place.new ≡ places_after deed place.old }
-    ensures phases { phase.new ≡ phases_after deed door phase.old }
-    ensures holders { holder.new ≡ holders_after deed door holder.old }
-    ensures counts { count.new ≡ counts_after deed door count.old }
-{
-    match deed {
-        Deed::Tells(answer, so) => {
-            Told {
-                answer,
-                phase: so,
-                reason: Reason::NONE,
-                held: 0,
-            }
+impl Moving {
+    // What these lists keep of the doors, lent.
+    pub fn door_lists(&self) -> Doors<'_>
+        ensures phases { result.phase.now ≡ self.now.phase }
+        ensures holders { result.holder.now ≡ self.now.holder }
+        ensures counts { result.count.now ≡ self.now.count }
+    {
+        Doors {
+            phase: &self.phase,
+            holder: &self.holder,
+            count: &self.count,
         }
-        Deed::Puts(so, reason, held) => {
-            put_door(door, so, phase, holder, count);
-            Told {
-                answer: Answer::Done,
-                phase: so.phase,
-                reason,
-                held,
+    }
+
+    // The lists with this door so.
+    fn put_door(&mut self, door: usize, so: Door)
+        ensures places { self.new.place ≡ self.old.place }
+        ensures phases { self.new.phase ≡ set self.old.phase door so.phase }
+        ensures holders { self.new.holder ≡ set self.old.holder door so.holder }
+        ensures counts { self.new.count ≡ set self.old.count door so.count }
+    {
+        put_entry(&mut self.phase, door, so.phase);
+        put_entry(&mut self.holder, door, so.holder);
+        put_entry(&mut self.count, door, so.count);
+    }
+
+    // Carries a deed out: the lists hold what they hold after the step.
+    pub fn carry_out(&mut self, deed: Deed, door: usize) -> Told
+        ensures told { result ≡ told_of deed }
+        ensures places { self.new.place ≡ places_after deed self.old.place }
+        ensures phases { self.new.phase ≡ phases_after deed door self.old.phase }
+        ensures holders { self.new.holder ≡ holders_after deed door self.old.holder }
+        ensures counts { self.new.count ≡ counts_after deed door self.old.count }
+    {
+        match deed {
+            Deed::Tells(answer, phase) => Told::with_no_reason(answer, phase),
+            Deed::Puts(so, reason, held) => {
+                self.put_door(door, so);
+                Told {
+                    answer: Answer::Done,
+                    phase: so.phase,
+                    reason,
+                    held,
+                }
             }
-        }
-        Deed::Leads(so, person, to) => {
-            put_byte(place, person, to);
-            put_door(door, so, phase, holder, count);
-            Told {
-                answer: Answer::Done,
-                phase: so.phase,
-                reason: Reason::NONE,
-                held: 0,
+            Deed::Leads(so, person, to) => {
+                put_entry(&mut self.place, person, to);
+                self.put_door(door, so);
+                Told::with_no_reason(Answer::Done, so.phase)
             }
         }
     }

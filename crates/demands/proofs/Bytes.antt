@@ -5,10 +5,10 @@ use mathlib.Core.List.{List, [], ◌∷◌, map}
 use lib.ListN.{take}
 use Rattle.tables.specs.Tables.{Plan}
 use Rattle.record.specs.declared.record.Record.{Record}
-use Rattle.phases.specs.Kinds.{StepRow}
+use Rattle.phases.specs.declared.table.StepRow.{StepRow}
 use Rattle.record.specs.Run.{Reply, reply_by, row_of, last_of, replies_of}
 use Rattle.record.proofs.Laws.{run_plan}
-use Rattle.verdict.specs.declared.Verdict.TheVariants.{Accepted}
+use Rattle.verdict.specs.Verdict.{Accepted}
 use Rattle.grammar.specs.Sizes.{limit}
 use Rattle.site_sheet.specs.Site.{site_of}
 use Rattle.steps_sheet.specs.Says.{Steps, SheetSays}

@@ -6,22 +6,19 @@ use mathlib.Core.List.{List}
 use native.Mathlib.Omega.{arith}
 use lib.ListN.{length}
 use lib.Dec.{eqb, ltb}
+use Rattle.std.specs.Prelude.{Option, Some, None}
 use Rattle.grammar.specs.declared.cut.RowCut.{RowCut}
 use Rattle.grammar.specs.declared.cut.RowCut.TheVariants.{Cut, NoRow, Broken}
 use Rattle.grammar.specs.Cut.{cut_row}
 use Rattle.tables.specs.Tables.{and_also}
-use Rattle.findings.specs.declared.Found.{Found}
-use Rattle.findings.specs.declared.Found.TheVariants.{At, Nothing}
-use Rattle.findings.specs.declared.RightFound.{RightFound}
-use Rattle.findings.specs.declared.RightFound.TheVariants as pair
 use Rattle.tables.specs.Tests.{first_no_exit, first_stray, first_no_door, first_no_right, first_shut_out, counts_fit, plan_in_range, lawful_b}
 use Rattle.soundness.specs.SoundTest.{lists_sound}
 use Rattle.record.specs.SoundTest.{sound_b}
 use Rattle.tables.proofs.Cases.{either}
-use Rattle.verdict.specs.declared.Verdict.{Verdict}
-use Rattle.verdict.specs.declared.Verdict.TheVariants.{Accepted, TooLong, BadRow, OutOfRange, Twice, NoSite, NoExit, Stray, NoDoor, NoRight, ShutOut}
-use Rattle.site_sheet.specs.declared.SiteRead.{SiteRead}
-use Rattle.site_lines.specs.declared.Reading.{Reading}
+use Rattle.verdict.specs.Verdict.{Verdict}
+use Rattle.verdict.specs.Verdict.{Accepted, TooLong, BadRow, OutOfRange, Twice, NoSite, NoExit, Stray, NoDoor, NoRight, ShutOut}
+use Rattle.site_sheet.specs.Site.{SiteRead}
+use Rattle.site_lines.specs.Draft.{Reading}
 use Rattle.site_lines.specs.declared.Draft.{Draft}
 use Rattle.site_lines.specs.Line.{site_header_at}
 use Rattle.site_lines.specs.Draft.{plan_in}
@@ -79,13 +76,13 @@ only_line (shut_out p) = (refl, refl)
 abbrev Blank : SiteRead → Type 0
 Blank x = (site.verdict_no x.verdict ≡ 0 → ⊥) → x.«record» ≡ blank_record
 
-found_blank : (x : Found) (refusal : ℕ → Verdict) (on : SiteRead) → Blank on → Blank (unless_found x refusal on)
-found_blank (At k) refusal on b some = refl
-found_blank Nothing refusal on b some = b some
+found_blank : (x : Option ℕ) (refusal : ℕ → Verdict) (on : SiteRead) → Blank on → Blank (unless_found x refusal on)
+found_blank (Some k) refusal on b some = refl
+found_blank None refusal on b some = b some
 
-pair_blank : (x : RightFound) (refusal : ℕ → ℕ → Verdict) (on : SiteRead) → Blank on → Blank (unless_pair x refusal on)
-pair_blank (pair.At p l) refusal on b some = refl
-pair_blank pair.Nothing refusal on b some = b some
+pair_blank : (x : Option (ℕ × ℕ)) (refusal : ℕ → ℕ → Verdict) (on : SiteRead) → Blank on → Blank (unless_pair x refusal on)
+pair_blank (Some (p, l)) refusal on b some = refl
+pair_blank None refusal on b some = b some
 
 judged_blank : (d : Draft) → Blank (judged_draft d)
 unfolding judged_draft

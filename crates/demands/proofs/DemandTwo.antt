@@ -9,6 +9,7 @@ use native.Mathlib.Omega.{arith}
 use borrow.Author.Tests.{eqb-true, eqb-false, ltb-true, ne_eqb, lt-ltb, le-leb}
 use lib.ListN.{length, get_or, drop}
 use lib.Dec.{eqb, ltb}
+use Rattle.std.specs.Prelude.{Ok}
 use Rattle.tables.specs.Tables.{Plan, and_also}
 use Rattle.tables.proofs.Laws.{clash}
 use Rattle.tables.specs.Rules.{SafeWay}
@@ -21,10 +22,10 @@ use Rattle.phases.specs.declared.table.Kind.{Kind}
 use Rattle.phases.specs.declared.table.Kind.TheVariants.{Card, Decide, Green, Red, Walk, Tick, Passed, Lapsed, Dark, Ack, Unknown}
 use Rattle.phases.specs.declared.answer.Answer.TheVariants.{Done}
 use Rattle.record.specs.declared.steps.Step.{Step}
-use Rattle.asked_way.specs.declared.WayAnswer.TheVariants.{Length}
 use Rattle.phases.specs.Phase.{free, read, granted, green, walked, expired, denied, red, dimmed, closed, green_span, red_span, grants}
 use Rattle.record.specs.Doors.{plan_of, door_of, Shaped}
-use Rattle.phases.specs.Kinds.{StepRow, allows, names_person}
+use Rattle.phases.specs.declared.table.StepRow.{StepRow}
+use Rattle.phases.specs.Kinds.{allows, names_person}
 use Rattle.phases.specs.Answers.{reason_busy}
 use Rattle.granting.specs.Grants.{GrantAt}
 use Rattle.record.specs.Sound.{Sound}
@@ -39,7 +40,7 @@ use Rattle.record.proofs.Ask.{place_is_location, way_out_safe}
 use Rattle.record.proofs.Right.{admitted}
 use Rattle.record.proofs.Tells.{sound_tells}
 use Rattle.record.proofs.Laws.{done_did, step_done, not_allowed, act_done, becomes, door_after, sound_stays, shaped_stays, plan_stays, rights_stay, run_sound, run_shaped, run_plan, run_rights, denied_first, door_told, granted_exactly, green_burns, green_expires, red_burns, red_dims}
-use Rattle.verdict.specs.declared.Verdict.TheVariants.{Accepted}
+use Rattle.verdict.specs.Verdict.{Accepted}
 use Rattle.grammar.specs.Sizes.{limit}
 use Rattle.site_lines.specs.Draft.{plan_in}
 use Rattle.site_sheet.specs.Site.{site_of}
@@ -55,7 +56,7 @@ use Rattle.record_answers.proofs.Record.{of_record}
 
 -- the question for the way out of a location, on a list that has room for it
 way_told : (r : Record) → Shaped r → Sound r → (l : ℕ) → l < r.locations → (list : List ℕ) → length (way_of r.locations r.exit l) ≤ length list
-    → (way_answer_of r l list ≡ Length (length (way_of r.locations r.exit l)))
+    → (way_answer_of r l list ≡ Ok (length (way_of r.locations r.exit l)))
     × (way_written r l list ≡ way_of r.locations r.exit l ++ drop (length (way_of r.locations r.exit l)) list)
 unfolding way_answer_of way_written way_told_in way_written_in if_room
 way_told r sh s l h list room =

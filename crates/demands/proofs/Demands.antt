@@ -19,8 +19,8 @@ use Rattle.record.specs.declared.record.Record.{Record}
 use Rattle.record.specs.Doors.{Shaped}
 use Rattle.granting.specs.Grants.{GrantAt}
 use Rattle.record.specs.Sound.{Sound}
-use Rattle.phases.specs.Kinds.{StepRow}
-use Rattle.verdict.specs.declared.Verdict.TheVariants.{Accepted}
+use Rattle.phases.specs.declared.table.StepRow.{StepRow}
+use Rattle.verdict.specs.Verdict.{Accepted}
 use Rattle.grammar.specs.Sizes.{limit}
 use Rattle.site_sheet.specs.Site.{site_of}
 use Rattle.steps_sheet.specs.Says.{Steps, SheetSays}

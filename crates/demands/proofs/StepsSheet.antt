@@ -1,16 +1,19 @@
 -- Demand 1 for the functions over a steps sheet: what a row says, what the sheet's beginning is, and its steps in lent lists. Assumes
 -- nothing.
 use Prim.Native.Nat.{ℕ}
-use mathlib.Core.Path.{◌≡◌, refl}
+use mathlib.Core.Path.{◌≡◌, sym, ap, ◌∙◌, refl}
 use mathlib.Core.Bool.{Bool, true, false}
 use mathlib.Core.List.{List}
 use mathlib.Core.Logic.{inl, inr}
-use native.Mathlib.Omega.{arith}
 use lib.ListN.{length}
 use Rattle.tables.specs.Below.{Tells}
 use Rattle.tables.proofs.Laws.{clash, tell_and, tell_as, tell_le}
 use Rattle.grammar.specs.Sizes.{limit}
-use Rattle.phases.specs.declared.answer.Answer.TheVariants.{Done, TooShort}
+use Rattle.std.specs.Prelude.{Ok, Err}
+use Rattle.findings.specs.Told.{too_short}
+use Rattle.steps_sheet.specs.declared.Decoded.{Decoded}
+use Rattle.steps_sheet.specs.Says.{Steps}
+use Rattle.steps_sheet.specs.Steps.{steps_from}
 use Rattle.steps_sheet.specs.Lent.{room_for_steps, steps_room_in, decoded_of, listed}
 use Rattle.steps_sheet.proofs.Theorems.{step_exactly, bad_exactly, steps_exactly, heading_exactly}
 use Rattle.demands.specs.DemandOne.{StepsRoom, DecodeTells, StepsAnswers}
@@ -21,9 +24,6 @@ room_tells s kinds doors persons =
     tell_as (λ t. record { in_kinds = t.0; in_doors = t.1.0; in_persons = t.1.1 }) (λ x. (x.in_kinds, (x.in_doors, x.in_persons)))
     (tell_and (tell_le _ _) (tell_and (tell_le _ _) (tell_le _ _)))
 
-refused : TooShort ≡ Done → ⊥
-refused e = let z : ◌≡◌ {A = ℕ} 0 1 = cc in omega arith
-
 decode_tells : (s : List ℕ) (from : ℕ) (kinds doors persons : List ℕ) → DecodeTells s from kinds doors persons
 unfolding decoded_of listed
 decode_tells s from kinds doors persons = go (steps_room_in s kinds doors persons) refl
@@ -32,14 +32,24 @@ decode_tells s from kinds doors persons = go (steps_room_in s kinds doors person
     go true b =
         record {
           number = inr ((room_tells s kinds doors persons).yes b, rw b);
-          unaltered = λ some. absurd (some (rw b));
-          decoded = λ _ steps says. let is = (steps_exactly s from steps).1 says in (rw (b, is), rw (b, is), rw (b, is), rw (b, is), rw (b, is));
+          unaltered = λ e. let z : Ok (record { count = length (steps_from s from).rows; whole = (steps_from s from).whole }) ≡ Err too_short = rw b at e in cc;
+          decoded =
+              λ d e steps says.
+              let is = (steps_exactly s from steps).1 says in
+              let z : Ok (record { count = length (steps_from s from).rows; whole = (steps_from s from).whole }) ≡ Ok d = rw b at e in
+              let same : record { count = length (steps_from s from).rows; whole = (steps_from s from).whole } ≡ d = cc in (
+                sym (ap (λ (x : Decoded). x.count) same) ∙ ap (λ (x : Steps). length x.rows) is,
+                sym (ap (λ (x : Decoded). x.whole) same) ∙ ap (λ (x : Steps). x.whole) is,
+                rw (b, is),
+                rw (b, is),
+                rw (b, is),
+              );
         }
     go false b =
         record {
           number = inl ((λ x. clash ((room_tells s kinds doors persons).back x) b), rw b);
           unaltered = λ _. (rw b, rw b, rw b);
-          decoded = λ e. absurd (refused (rw b at e));
+          decoded = λ d e. let z : Err too_short ≡ Ok d = rw b at e in cc;
         }
 
 pub of_steps : StepsAnswers

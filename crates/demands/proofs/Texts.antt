@@ -20,8 +20,8 @@ use Rattle.site_sheet.specs.Site.{site_of, verdict_no}
 use Rattle.grammar.specs.Sizes.{limit}
 use Rattle.site_sheet.specs.Accepted.{AcceptedRecord}
 use Rattle.site_sheet.proofs.Theorems.{accepted_holds, accepted_people}
-use Rattle.steps_sheet.specs.declared.Heading.{Heading}
-use Rattle.steps_sheet.specs.declared.Heading.TheVariants as heading
+use Rattle.steps_sheet.specs.Heading.{Heading}
+use Rattle.steps_sheet.specs.Heading as heading
 use Rattle.steps_sheet.specs.Steps.{heading_of, steps_from}
 use Rattle.steps_sheet.proofs.Theorems.{few_steps, headed_short}
 use Rattle.run_text.specs.Printed.{panel_header, where_header, panel_row, alone_text, ran_text, steps_text, panel_text, place_rows, places_text, record_text, last_record, where_text}

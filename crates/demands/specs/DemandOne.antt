@@ -5,24 +5,21 @@
 -- printed are here, and that of rows that come is in `specs/Rows.antt`. The others are in `sheet_answers/specs/Answers.antt`, `syslog_answers/specs/Answers.antt`,
 -- `table_answers/specs/Answers.antt`, and `record_answers/specs/Answers.antt`, `record_answers/specs/Deeds.antt` and
 -- `record_answers/specs/Enums.antt`.
-use Rattle.std.specs.Prelude.{ℕ, ◌+◌, ◌*◌, ◌≤◌, ◌<◌, ◌≡◌, true, false, cond, List, ◌↔◌, length, drop, replicate, eqb, leb}
+use Rattle.std.specs.Prelude.{ℕ, ◌+◌, ◌*◌, ◌≤◌, ◌<◌, ◌≡◌, true, false, cond, List, ◌↔◌, length, drop, replicate, eqb, leb, Result, Ok, Err}
 use Rattle.std.proofs.lemmas.List.Edits.{sets}
+use Rattle.std.specs.Prelude.{Some, None}
 use Rattle.numbers.specs.Numbers.{done_no, too_long_no, bad_form_no, out_of_range_no, twice_no, no_site_no, no_exit_no, stray_no, no_door_no, no_right_no, shut_out_no, too_short_no}
-use Rattle.findings.specs.declared.Printed.{Printed}
-use Rattle.findings.specs.declared.Printed.TheVariants.{Text}
 use Rattle.text.specs.Printed.{printed_of, Prints}
-use Rattle.phases.specs.declared.answer.Answer.TheVariants.{Done}
-use Rattle.phases.specs.Answers.{answer_no}
 use Rattle.record.specs.SoundTest.{sound_b}
-use Rattle.verdict.specs.declared.Verdict.{Verdict}
-use Rattle.verdict.specs.declared.Verdict.TheVariants.{Accepted, TooLong, BadRow, OutOfRange, Twice, NoSite, NoExit, Stray, NoDoor, NoRight, ShutOut}
+use Rattle.verdict.specs.Verdict.{Verdict}
+use Rattle.verdict.specs.Verdict.{Accepted, TooLong, BadRow, OutOfRange, Twice, NoSite, NoExit, Stray, NoDoor, NoRight, ShutOut}
 use Rattle.grammar.specs.declared.cut.Cells.{Cells}
 use Rattle.tables.specs.Tables.{may_be, most_people, most_locations}
 use Rattle.grammar.specs.Grammar.{Row}
 use Rattle.grammar.specs.Where.{RowHolds}
 use Rattle.grammar.specs.Rows.{rows_from}
 use Rattle.grammar.specs.Sizes.{limit}
-use Rattle.phases.specs.Kinds.{StepRow}
+use Rattle.phases.specs.declared.table.StepRow.{StepRow}
 use Rattle.site_lines.specs.declared.SiteLine.{SiteLine}
 use Rattle.site_lines.specs.Line.{site_line_at}
 use Rattle.site_lines.specs.Draft.{blank_draft}
@@ -31,8 +28,7 @@ use Rattle.site_lines.specs.Taking.{lines_in, read_lines}
 use Rattle.site_sheet.specs.Site.{site_of, blank_record, first_place, second_place}
 use Rattle.site_sheet.specs.Site as site
 use Rattle.site_lines.specs.Gives.{RowsTold, Gives}
-use Rattle.steps_sheet.specs.declared.Heading.{Heading}
-use Rattle.steps_sheet.specs.declared.StepsLine.TheVariants as line
+use Rattle.steps_sheet.specs.Heading.{Heading}
 use Rattle.steps_sheet.specs.Says.{Steps, SaysStep, BadForm, TextSaysSteps, HeadingSays}
 use Rattle.steps_sheet.specs.Steps.{steps_line_at, heading_of}
 use Rattle.steps_sheet.specs.Lent.{most_in, kinds_in, doors_in, persons_in, decoded_in, kinds_listed, doors_listed, persons_listed}
@@ -48,6 +44,10 @@ use Rattle.record_answers.specs.Answers.{SoundAnswers, RecordAnswers}
 use Rattle.record_answers.specs.Deeds.{DeedsAnswers}
 use Rattle.record_answers.specs.Enums.{EnumAnswers}
 use Rattle.demands.specs.Rows.{LiveAnswers}
+use Rattle.findings.specs.declared.TooShort.{TooShort}
+use Rattle.findings.specs.Told.{too_short, short_no}
+use Rattle.numbers.specs.Told.{told_no}
+use Rattle.steps_sheet.specs.declared.Decoded.{Decoded}
 
 -- ---- crates `verdict`, `site_row`, `site_tables` and `site`
 
@@ -98,22 +98,22 @@ pub record StepsRoom (bytes : ℕ) (kinds doors persons : List ℕ) : Type 0 whe
   pub in_persons : most_in bytes ≤ length persons
 
 pub record DecodeTells (s : List ℕ) (from : ℕ) (kinds doors persons : List ℕ) : Type 0 where
-  pub number : NumberBy (too_short_no unless StepsRoom (length s) kinds doors persons then done) (answer_no (decoded_in s from kinds doors persons).answer)
+  pub number : NumberBy (too_short_no unless StepsRoom (length s) kinds doors persons then done) (told_no short_no (decoded_in s from kinds doors persons))
   -- "After a refusal .. every lent list hold[s] what [it] held before."
-  pub unaltered : ((decoded_in s from kinds doors persons).answer ≡ Done → ⊥)
+  pub unaltered : decoded_in s from kinds doors persons ≡ Err too_short
       → (kinds_listed s from kinds doors persons ≡ kinds) × (doors_listed s from kinds doors persons ≡ doors) × (persons_listed s from kinds doors persons ≡ persons)
   -- else what the text from there says: how many steps, whether it ends behind them, and each in front of each list, the rest unaltered
-  pub decoded : (decoded_in s from kinds doors persons).answer ≡ Done → (steps : Steps) → TextSaysSteps (drop from s) steps.rows steps.whole
-      → ((decoded_in s from kinds doors persons).count ≡ length steps.rows)
-      × ((decoded_in s from kinds doors persons).whole ≡ steps.whole)
+  pub decoded : (d : Decoded) → decoded_in s from kinds doors persons ≡ Ok d → (steps : Steps) → TextSaysSteps (drop from s) steps.rows steps.whole
+      → (d.count ≡ length steps.rows)
+      × (d.whole ≡ steps.whole)
       × (kinds_listed s from kinds doors persons ≡ sets kinds 0 (kinds_in steps))
       × (doors_listed s from kinds doors persons ≡ sets doors 0 (doors_in steps))
       × (persons_listed s from kinds doors persons ≡ sets persons 0 (persons_in steps))
 
 -- a row is told to be a step, or of bad form, exactly when it is so
 pub record StepsLineTells (s : List ℕ) (cells : Cells) (r : Row) : Type 0 where
-  pub a_step : (step : StepRow) → (steps_line_at s cells ≡ line.Step step.kind step.at step.person) ↔ SaysStep r step
-  pub bad : (steps_line_at s cells ≡ line.Bad) ↔ BadForm r
+  pub a_step : (step : StepRow) → (steps_line_at s cells ≡ Some step) ↔ SaysStep r step
+  pub bad : (steps_line_at s cells ≡ None) ↔ BadForm r
 
 pub record StepsAnswers : Type 0 where
   pub steps_line_of_lem : (s : List ℕ) (cells : Cells) (r : Row) → RowHolds s cells r → StepsLineTells s cells r
@@ -124,11 +124,11 @@ pub record StepsAnswers : Type 0 where
 -- ---- crates `run`, `stream`, `blank_lists` and `program_io`, and the list of `stream_lists` for a stream that is printed
 
 pub record RunAnswers : Type 0 where
-  pub panel_text_lem : (site steps out : List ℕ) (told : Printed) (after : List ℕ) → Prints (panel_text site steps) out told after
+  pub panel_text_lem : (site steps out : List ℕ) (told : Result ℕ TooShort) (after : List ℕ) → Prints (panel_text site steps) out told after
       → TextTells (panel_text site steps) out told after
-  pub where_text_lem : (site steps out : List ℕ) (told : Printed) (after : List ℕ) → Prints (where_text site steps) out told after
+  pub where_text_lem : (site steps out : List ℕ) (told : Result ℕ TooShort) (after : List ℕ) → Prints (where_text site steps) out told after
       → TextTells (where_text site steps) out told after
-  pub events_text_lem : (site steps out : List ℕ) (told : Printed) (after : List ℕ) → Prints (events_text site steps) out told after
+  pub events_text_lem : (site steps out : List ℕ) (told : Result ℕ TooShort) (after : List ℕ) → Prints (events_text site steps) out told after
       → TextTells (events_text site steps) out told after
   -- the list for a sheet has a byte more than a sheet may have, so that a longer file is seen to be longer
   pub blank_sheet : (s : List ℕ) → length s ≤ limit → length s < length {A = ℕ} (replicate (limit + 1) 0)
@@ -142,9 +142,9 @@ pub record RunAnswers : Type 0 where
   pub events_fits : (site steps : List ℕ) → length (events_text site steps) ≤ most_events_text
   pub read_events_fits : (stream text : List ℕ) → RowsText stream text → length text ≤ most_rows_text
   -- so that each is printed whole in the list that is there for it
-  pub blank_panel_text : (site steps : List ℕ) → printed_of (panel_text site steps) (replicate most_panel_text 0) ≡ Text (length (panel_text site steps))
-  pub blank_where_text : (site steps : List ℕ) → printed_of (where_text site steps) (replicate most_where_text 0) ≡ Text (length (where_text site steps))
-  pub blank_events_text : (site steps : List ℕ) → printed_of (events_text site steps) (replicate most_events_text 0) ≡ Text (length (events_text site steps))
+  pub blank_panel_text : (site steps : List ℕ) → printed_of (panel_text site steps) (replicate most_panel_text 0) ≡ Ok (length (panel_text site steps))
+  pub blank_where_text : (site steps : List ℕ) → printed_of (where_text site steps) (replicate most_where_text 0) ≡ Ok (length (where_text site steps))
+  pub blank_events_text : (site steps : List ℕ) → printed_of (events_text site steps) (replicate most_events_text 0) ≡ Ok (length (events_text site steps))
 
 -- ---- all of them
 

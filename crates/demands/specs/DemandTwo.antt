@@ -2,7 +2,7 @@
 -- has a signed way outside which they may use. Each step does what the events of the location access chapter, to its fourth
 -- refinement, say: it acts exactly when it may, is green exactly when all three conditions hold, otherwise red with the first reason
 -- that applies." Behind it, what shuts out the wrong panels that 01 names ("What the promises leave no room for").
-use Rattle.std.specs.Prelude.{ℕ, ◌-◌, ◌+◌, ◌≤◌, ◌<◌, ◌≡◌, List, ◌++◌, ◌⊎◌, ◌↔◌, length, get_or, drop}
+use Rattle.std.specs.Prelude.{ℕ, ◌-◌, ◌+◌, ◌≤◌, ◌<◌, ◌≡◌, List, ◌++◌, ◌⊎◌, ◌↔◌, length, get_or, drop, Ok}
 use Rattle.tables.specs.Tables.{most_locations}
 use Rattle.tables.specs.Rules.{SafeWay}
 use Rattle.tables.specs.Way.{Way}
@@ -11,19 +11,18 @@ use Rattle.phases.specs.declared.table.Kind.{Kind}
 use Rattle.phases.specs.declared.table.Kind.TheVariants.{Decide, Green, Red, Tick}
 use Rattle.phases.specs.declared.answer.Answer.TheVariants.{Done, NotAllowed}
 use Rattle.record.specs.declared.steps.Step.{Step}
-use Rattle.asked_way.specs.declared.WayAnswer.TheVariants.{Length}
 use Rattle.phases.specs.Phase.{granted, green, expired, denied, red, dimmed, green_span, red_span}
 use Rattle.door.specs.Door.{door}
 use Rattle.record.specs.Doors.{plan_of, door_of, Shaped}
 use Rattle.record.specs.Sound.{Sound}
 use Rattle.record.specs.Steps.{Admitted, First, step_of}
 use Rattle.record.specs.Run.{last_of}
-use Rattle.phases.specs.Kinds.{StepRow}
+use Rattle.phases.specs.declared.table.StepRow.{StepRow}
 use Rattle.phases.specs.Answers.{reason_busy}
 use Rattle.granting.specs.Grants.{GrantAt}
 use Rattle.record.specs.Lights.{ticks, Each, NoWalk}
 use Rattle.record.specs.Questions.{way_answer_of, way_written}
-use Rattle.verdict.specs.declared.Verdict.TheVariants.{Accepted}
+use Rattle.verdict.specs.Verdict.{Accepted}
 use Rattle.grammar.specs.Sizes.{limit}
 use Rattle.site_sheet.specs.Site.{site_of}
 use Rattle.site_lines.specs.Gives.{Obeys}
@@ -52,7 +51,7 @@ pub record WayAsked (exit : List ℕ) (r : Record) (l : ℕ) : Type 0 where
   pub short : length way ≤ most_locations - 1
   -- and it is what the question for the way out tells and writes into any list that has room for it
   pub told : (list : List ℕ) → length way ≤ length list
-      → (way_answer_of r l list ≡ Length (length way)) × (way_written r l list ≡ way ++ drop (length way) list)
+      → (way_answer_of r l list ≡ Ok (length way)) × (way_written r l list ≡ way ++ drop (length way) list)
 
 -- "everybody has a signed way outside which they may use": person p of record r, from where they are
 pub record WayOutside (site r : Record) (p : ℕ) : Type 0 where

@@ -1,6 +1,7 @@
 -- Demand 1, and that answers are unique, of rows that are answered as they come: crate `attend`, and of crate `stream` the events that are written
 -- one by one.
 use Rattle.std.specs.Prelude.{ℕ, ◌^◌, ◌≤◌, ◌<◌, ◌≡◌, List, length, get_or, set, replicate}
+use Rattle.std.specs.Prelude.{Some, None}
 use Rattle.numbers.specs.Numbers.{done_no, bad_form_no}
 use Rattle.numbers.specs.Telling.{Unique}
 use Rattle.tables.specs.Tables.{most_doors}
@@ -9,7 +10,6 @@ use Rattle.phases.specs.Answers.{answer_no}
 use Rattle.record.specs.declared.record.Record.{Record}
 use Rattle.record.specs.Doors.{Shaped}
 use Rattle.record.specs.Steps.{step_of, told_by}
-use Rattle.steps_sheet.specs.declared.StepsLine.TheVariants as line
 use Rattle.text.specs.Wrote.{Wrote}
 use Rattle.run_text.specs.Printed.{panel_row}
 use Rattle.sheet_answers.specs.Answers.{TextWritten}
@@ -22,12 +22,12 @@ use Rattle.attend.specs.Attend.{row_says, asked_in, step_asked, shown_row, Atten
 -- a row of bad form is printed with 2, and any other with the number of its step; both leave the record as it was where they are refused. The row to print
 -- stands at the front of the list, and of a shaped record a list of 31 bytes has room for it, its number having 20 digits at most
 pub record AttendTells (r : Record) (row : List ℕ) (n : ℕ) (before : List ℕ) (attended : Attended) (next : Record) (after : List ℕ) : Type 0 where
-  pub printed_bad : row_says row ≡ line.Bad → shown_row n (asked_in row) (told_by (step_asked r (asked_in row))) ≡ panel_row n bad_form_no 0 0 0
-  pub printed_step : (k : Kind) (d p : ℕ) → row_says row ≡ line.Step k d p
+  pub printed_bad : row_says row ≡ None → shown_row n (asked_in row) (told_by (step_asked r (asked_in row))) ≡ panel_row n bad_form_no 0 0 0
+  pub printed_step : (k : Kind) (d p : ℕ) → row_says row ≡ Some (record { kind = k; at = d; person = p })
       → shown_row n (asked_in row) (told_by (step_asked r (asked_in row)))
       ≡ panel_row n (answer_no (step_of r k d p).answer) (step_of r k d p).phase (step_of r k d p).reason (step_of r k d p).held
-  pub number : (k : Kind) (d p : ℕ) → row_says row ≡ line.Step k d p → StepTells r k d p (step_of r k d p)
-  pub bad_form : row_says row ≡ line.Bad → next ≡ r
+  pub number : (k : Kind) (d p : ℕ) → row_says row ≡ Some (record { kind = k; at = d; person = p }) → StepTells r k d p (step_of r k d p)
+  pub bad_form : row_says row ≡ None → next ≡ r
   pub refused : (answer_no attended.told.answer ≡ done_no → ⊥) → next ≡ r
   pub written : TextWritten before 0 (shown_row n (asked_in row) (told_by (step_asked r (asked_in row)))) after attended.length
   pub short : Shaped r → n < 10 ^ 20 → length (shown_row n (asked_in row) (told_by (step_asked r (asked_in row)))) ≤ 31

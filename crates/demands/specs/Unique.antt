@@ -4,29 +4,29 @@
 -- The parts of the site sheet, of the steps sheet and of what is printed are here. The others are in specs/Unique.antt of the crates
 -- `sheet_answers`, `syslog_answers`, `table_answers` and `record_answers`, and in `record_answers/specs/Deeds.antt` and
 -- `record_answers/specs/Enums.antt`.
-use Rattle.std.specs.Prelude.{ℕ, ◌+◌, ◌*◌, ◌≡◌, Bool, false, cond, List, length, replicate, leb}
+use Rattle.std.specs.Prelude.{ℕ, ◌+◌, ◌*◌, ◌≡◌, Bool, false, cond, List, length, replicate, leb, Result}
+use Rattle.std.specs.Prelude.{Option}
+use Rattle.phases.specs.declared.table.StepRow.{StepRow}
 use Rattle.grammar.specs.Sizes.{limit}
 use Rattle.tables.specs.Tables.{most_people, most_locations}
-use Rattle.findings.specs.declared.Printed.{Printed}
 use Rattle.text.specs.Printed.{Prints}
 use Rattle.record.specs.declared.record.Record.{Record}
 use Rattle.record.specs.Steps.{First, HeldDoor}
-use Rattle.verdict.specs.declared.Verdict.{Verdict}
+use Rattle.verdict.specs.Verdict.{Verdict}
 use Rattle.grammar.specs.declared.cut.Cells.{Cells}
 use Rattle.grammar.specs.Rows.{rows_from}
 use Rattle.site_lines.specs.declared.SiteLine.{SiteLine}
-use Rattle.site_lines.specs.declared.Reading.{Reading}
-use Rattle.site_sheet.specs.declared.SiteRead.{SiteRead}
+use Rattle.site_lines.specs.Draft.{Reading}
+use Rattle.site_sheet.specs.Site.{SiteRead}
 use Rattle.site_lines.specs.Line.{site_line_at}
 use Rattle.site_lines.specs.Draft.{blank_draft}
 use Rattle.site_lines.specs.Taking.{lines_in, read_lines}
 use Rattle.site_sheet.specs.Site.{site_of, first_place, second_place}
 use Rattle.site_sheet.specs.Site as site
 use Rattle.site_lines.specs.Gives.{Gives}
-use Rattle.steps_sheet.specs.declared.Heading.{Heading}
+use Rattle.steps_sheet.specs.Heading.{Heading}
 use Rattle.steps_sheet.specs.declared.Decoded.{Decoded}
 use Rattle.steps_sheet.specs.Says.{Steps, TextSaysSteps, HeadingSays}
-use Rattle.steps_sheet.specs.declared.StepsLine.{StepsLine}
 use Rattle.steps_sheet.specs.Steps.{steps_line_at, heading_of}
 use Rattle.steps_sheet.specs.Lent.{decoded_in, kinds_listed, doors_listed, persons_listed}
 use Rattle.run_text.specs.Printed.{panel_text, where_text}
@@ -41,6 +41,7 @@ use Rattle.record_answers.specs.Unique.{SoundUnique, RecordUnique}
 use Rattle.record_answers.specs.Deeds.{DeedsUnique}
 use Rattle.record_answers.specs.Enums.{EnumUnique}
 use Rattle.demands.specs.Rows.{LiveUnique}
+use Rattle.findings.specs.declared.TooShort.{TooShort}
 
 pub record SiteUnique : Type 0 where
   pub site_line_of_lem : (s : List ℕ) (cells : Cells) → Unique (λ (x : SiteLine). x ≡ site_line_at s cells)
@@ -51,12 +52,12 @@ pub record SiteUnique : Type 0 where
   pub verdict_second_place : (v : Verdict) → Unique (λ (x : ℕ). x ≡ second_place v)
 
 pub record StepsUnique : Type 0 where
-  pub steps_line_of_lem : (s : List ℕ) (cells : Cells) → Unique (λ (x : StepsLine). x ≡ steps_line_at s cells)
+  pub steps_line_of_lem : (s : List ℕ) (cells : Cells) → Unique (λ (x : Option StepRow). x ≡ steps_line_at s cells)
   pub heading_of_lem : (s : List ℕ) → Unique (λ (x : Heading). x ≡ heading_of s)
   -- the answer, and the three lent lists at exit
   pub decode : (s : List ℕ) (from : ℕ) (kinds doors persons : List ℕ)
       → Unique
-      (λ (x : Decoded × List ℕ × List ℕ × List ℕ).
+      (λ (x : Result Decoded TooShort × List ℕ × List ℕ × List ℕ).
       (x.0 ≡ decoded_in s from kinds doors persons)
       × (x.1 ≡ kinds_listed s from kinds doors persons)
       × (x.2 ≡ doors_listed s from kinds doors persons)
@@ -65,11 +66,11 @@ pub record StepsUnique : Type 0 where
 pub record RunUnique : Type 0 where
   -- the answer, and the lent list at exit
   pub panel_text_lem : (site steps out : List ℕ)
-      → Unique (λ (x : Printed × List ℕ). Prints (panel_text site steps) out x.0 x.1)
+      → Unique (λ (x : Result ℕ TooShort × List ℕ). Prints (panel_text site steps) out x.0 x.1)
   pub where_text_lem : (site steps out : List ℕ)
-      → Unique (λ (x : Printed × List ℕ). Prints (where_text site steps) out x.0 x.1)
+      → Unique (λ (x : Result ℕ TooShort × List ℕ). Prints (where_text site steps) out x.0 x.1)
   pub events_text_lem : (site steps out : List ℕ)
-      → Unique (λ (x : Printed × List ℕ). Prints (events_text site steps) out x.0 x.1)
+      → Unique (λ (x : Result ℕ TooShort × List ℕ). Prints (events_text site steps) out x.0 x.1)
   pub write_text : (list : List ℕ) (n : ℕ) → Unique (λ (x : ℕ). x ≡ cond (leb n (length list)) n 0)
   pub blank_sheet : Unique (λ (x : List ℕ). x ≡ replicate (limit + 1) 0)
   pub blank_rights : Unique (λ (x : List Bool). x ≡ replicate (most_people * most_locations) false)

@@ -1,11 +1,11 @@
 // What a step that may be done does to its door: the answer stands here, and the function that answers in `step`.
-#![tactic(auto)]
+#![tactic(auto, using(std::proofs::lemmas::Bool::Decides::nat_tests), unfolding(crate::specs::Does::effect))]
 
 pub mod step;
 
 use door::Door;
 
-// What a step does to its door.
+// What a step does to its door: three things, so no `Option` and no `Result` has its shape.
 #[derive(Clone, Copy)]
 pub enum Does {
     // nothing

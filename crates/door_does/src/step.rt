@@ -22,26 +22,27 @@ fn decided(now: Door, why: u8) -> Does
 fn burnt(now: Door, out: u8) -> Does
     ensures { result ≡ burns now out }
 {
-    let holder = now.holder;
-    let count = now.count;
-    if 1 < count {
-        return Does::Turns(Door::new(now.phase, holder, count - 1), Reason::NONE);
+    if 1 < now.count {
+        return Does::Turns(
+            Door::new(now.phase, now.holder, now.count - 1),
+            Reason::NONE,
+        );
     }
-    Does::Turns(Door::new(out, holder, 0), Reason::NONE)
+    Does::Turns(Door::new(out, now.holder, 0), Reason::NONE)
 }
 
 // `tick`: a light burns down, and all else stays as it is.
 fn ticked(now: Door) -> Does
     ensures { result ≡ effect Kind.Tick 0 0 now }
 {
-    let phase = now.phase;
-    match phase {
+    match now.phase {
         Phase::GREEN => burnt(now, Phase::EXPIRED),
         Phase::RED => burnt(now, Phase::DIMMED),
         _ => Does::Stays,
     }
 }
 
+// A `match` and no table of functions: most of these deeds are values, and `effect` says them case by case.
 // What a step that may be done does to a door that is so now: `person` is the person of a card,
 // and `why` the reason to deny.
 pub fn does(now: Door, kind: Kind, person: u16, why: u8) -> Does

@@ -1,5 +1,5 @@
 // What a phase decides of its door: whether the door keeps a person, whether it holds a grant, and whether its fields fit.
-#![tactic(auto)]
+#![tactic(auto, using(std::proofs::lemmas::Bool::Decides::nat_tests), unfolding(tables::specs::Tables::and_also, tables::specs::Tables::or_else, phases::specs::Phase::keeps, phases::specs::Phase::grants, phases::specs::Phase::lit, phases::specs::Phase::least_count, phases::specs::Phase::most_count, crate::specs::Fits::holder_fits, crate::specs::Fits::fields_fit))]
 
 ghost use Rattle.std.specs.Prelude.{◌≡◌};
 ghost use Rattle.phases.specs.Phase.{keeps, grants};
@@ -12,20 +12,14 @@ use phases::phase::{Phase, Span};
 fn keeps(phase: u8) -> bool
     ensures { result ≡ keeps phase }
 {
-    match phase {
-        Phase::READ..=Phase::EXPIRED => true,
-        _ => false,
-    }
+    matches!(phase, Phase::READ..=Phase::EXPIRED)
 }
 
 // Does a door in this phase hold a grant?
 pub fn grants(phase: u8) -> bool
     ensures { result ≡ grants phase }
 {
-    match phase {
-        Phase::GRANTED..=Phase::EXPIRED => true,
-        _ => false,
-    }
+    matches!(phase, Phase::GRANTED..=Phase::EXPIRED)
 }
 
 // A phase that keeps a person has one who exists, and every other phase has 0.
@@ -33,9 +27,10 @@ fn holder_fits(people: usize, phase: u8, holder: usize) -> bool
     ensures { result ≡ holder_fits people phase holder }
 {
     if keeps(phase) {
-        return holder < people;
+        holder < people
+    } else {
+        holder == 0
     }
-    holder == 0
 }
 
 // A light that burns has a countdown of 1 to its span, and every other phase has 0.
@@ -43,18 +38,9 @@ fn count_fits(phase: u8, count: u16) -> bool
     ensures { result ≡ count_fits phase count }
 {
     match phase {
-        Phase::GREEN => match count {
-            1..=Span::GREEN => true,
-            _ => false,
-        },
-        Phase::RED => match count {
-            1..=Span::RED => true,
-            _ => false,
-        },
-        _ => match count {
-            0 => true,
-            _ => false,
-        },
+        Phase::GREEN => matches!(count, 1..=Span::GREEN),
+        Phase::RED => matches!(count, 1..=Span::RED),
+        _ => count == 0,
     }
 }
 
@@ -62,12 +48,7 @@ fn count_fits(phase: u8, count: u16) -> bool
 pub fn fits(so: Door, people: usize) -> bool
     ensures { result ≡ fields_fit people so }
 {
-    let phase = so.phase;
-    if Phase::CLOSED < phase {
-        return false;
-    }
-    if !holder_fits(people, phase, so.holder as usize) {
-        return false;
-    }
-    count_fits(phase, so.count)
+    so.phase <= Phase::CLOSED
+        && holder_fits(people, so.phase, so.holder as usize)
+        && count_fits(so.phase, so.count)
 }

@@ -1,2 +1,2 @@
--- What is told of a way out and of a text, by the paper's numbers.
+-- What is told of a text, of a way out and of a question, by the paper's numbers.
 pub mod Told

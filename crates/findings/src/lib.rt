@@ -1,77 +1,84 @@
-// What is told: what a search over a table finds, how long a way out is, and what became of a text.
+// Why something isn't told: a list is too short, or a question is refused; each refusal has the paper's number. What is told stands in
+// a `Result`, and what a search finds in an `Option`: the smallest offender, or none.
 #![tactic(auto)]
 
 ghost use Rattle.std.specs.Prelude.{◌≡◌};
-ghost use Rattle.findings.specs.Told.{way_told_no, way_told_length, printed_no};
+ghost use Rattle.findings.specs.Told.{short_no, refused_no, way_refused_no, refused_way, short_way};
 
-use numbers::Paper;
+use numbers::{Numbered, Paper};
 
-// What a search over a table finds: the smallest offender, or none.
-#[derive(Clone, Copy)]
-pub enum Found {
-    // the smallest offender
-    At(usize),
-    // there is none
-    Nothing,
-}
+// The list that is lent is shorter than what is to be written there, and nothing was written.
+#[derive(Clone, Copy, PartialEq, Eq)]
+pub struct TooShort;
 
-// What the search over people and locations finds: the smallest person, then the location; or none.
-#[derive(Clone, Copy)]
-pub enum RightFound {
-    // the smallest person, and the smallest location of theirs
-    At { person: usize, location: usize },
-    // there is none
-    Nothing,
-}
+impl Numbered for TooShort {
+    ghost number_of = { short_no };
 
-// What is told of a way out.
-#[derive(Clone, Copy)]
-pub enum WayTold {
-    // its length; it stands in the front of the list that was lent
-    Length(usize),
-    // the list is shorter than the way, and nothing was written
-    TooShort,
-}
-
-impl WayTold {
-    // The paper's number.
-    pub fn number(self) -> u8
-        ensures { result ≡ way_told_no self }
-    {
-        match self {
-            WayTold::Length(_) => Paper::DONE,
-            WayTold::TooShort => Paper::TOO_SHORT,
-        }
+    fn number(&self) -> u8 {
+        Paper::TOO_SHORT
     }
+}
 
-    // The length that is told, 0 where nothing was written.
-    pub fn length(self) -> usize
-        ensures { result ≡ way_told_length self }
-    {
+// Why it isn't told where a person is, or which door is granted to them.
+#[derive(Clone, Copy, PartialEq, Eq)]
+pub enum Refused {
+    // 11: there is no such person
+    NoSuch,
+    // 14: the record isn't sound
+    Unsound,
+}
+
+impl Numbered for Refused {
+    ghost number_of = { refused_no };
+
+    fn number(&self) -> u8 {
         match self {
-            WayTold::Length(length) => length,
-            WayTold::TooShort => 0,
+            Refused::NoSuch => Paper::NO_SUCH,
+            Refused::Unsound => Paper::UNSOUND,
         }
     }
 }
 
-// What became of a text.
-#[derive(Clone, Copy)]
-pub enum Printed {
-    // so many bytes at the front of the lent list are the text
-    Text(usize),
-    // the list is shorter than the text, and nothing was written
+// Why the way out of a location isn't told.
+#[derive(Clone, Copy, PartialEq, Eq)]
+pub enum WayRefused {
+    // 11: there is no such location
+    NoSuch,
+    // 13: the list is shorter than the way
     TooShort,
+    // 14: the record isn't sound
+    Unsound,
 }
 
-impl Printed {
-    // The paper's number.
-    pub fn number(self) -> u8
-        ensures { result ≡ printed_no self }
-    {
+impl Numbered for WayRefused {
+    ghost number_of = { way_refused_no };
+
+    fn number(&self) -> u8 {
         match self {
-            Printed::Text(_) => Paper::DONE,
-            Printed::TooShort => Paper::TOO_SHORT,
+            WayRefused::NoSuch => Paper::NO_SUCH,
+            WayRefused::TooShort => Paper::TOO_SHORT,
+            WayRefused::Unsound => Paper::UNSOUND,
+        }
+    }
+}
+
+impl From<Refused> for WayRefused {
+    ghost from_gives = { λ refusal r. r ≡ refused_way refusal };
+
+    fn from(refusal: Refused) -> Self {
+        match refusal {
+            Refused::NoSuch => WayRefused::NoSuch,
+            Refused::Unsound => WayRefused::Unsound,
+        }
+    }
+}
+
+impl From<TooShort> for WayRefused {
+    ghost from_gives = { λ short r. r ≡ short_way short };
+
+    fn from(short: TooShort) -> Self {
+        match short {
+            TooShort => WayRefused::TooShort,
         }
     }
 }

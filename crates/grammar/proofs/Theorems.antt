@@ -10,11 +10,11 @@ use Rattle.grammar.specs.declared.cut.Cells.{Cells}
 use Rattle.grammar.specs.declared.cut.Mode.TheVariants.{Fresh}
 use Rattle.grammar.specs.declared.cut.FieldCut.TheVariants.{Next, Last, Fault}
 use Rattle.grammar.specs.declared.cut.RowCut.TheVariants.{Cut, NoRow, Broken}
-use Rattle.grammar.specs.declared.count.RowsCounted.TheVariants.{All, UpTo}
+use Rattle.std.specs.Prelude.{Ok, Err}
 use Rattle.grammar.specs.Grammar.{comma, cr, lf, Field, Written, field_text, Row, WrittenRow, row_text, RowAt, ended, last, Sheet, BeginsWith}
 use Rattle.grammar.specs.Cut.{empty_at, no_cells, field_from, cut_field, cut_row}
 use Rattle.grammar.specs.Where.{cell_of, cells_of}
-use Rattle.grammar.specs.Rows.{on_row, rows_from, count_rows}
+use Rattle.grammar.specs.Rows.{on_row, rows_from, broken_at, count_rows}
 use Rattle.grammar.specs.Meaning.{CutRow, SheetOf, BrokenRow, BrokenAfter, FirstFieldFault}
 use Rattle.grammar.proofs.Written as written
 use Rattle.grammar.proofs.Found as found
@@ -65,11 +65,11 @@ one_reading a b = unique.rows_unique a b
 
 module _ (s : List ℕ) where
   -- The rows are counted whole exactly when the text is a sheet, and then they are its rows.
-  pub counted_is_sheet : (n : ℕ) → (count_rows s ≡ All n) ↔ SheetOf s n
+  pub counted_is_sheet : (n : ℕ) → (count_rows s ≡ Ok n) ↔ SheetOf s n
   counted_is_sheet n = whole.count_exact s n
 
   -- They are counted up to a row exactly when they are the rows in front of one that is broken, with the byte where that breaks.
-  pub counted_up_to : (n byte : ℕ) → (count_rows s ≡ UpTo n byte) ↔ BrokenAfter s n byte
+  pub counted_up_to : (n byte : ℕ) → (count_rows s ≡ Err (broken_at n byte)) ↔ BrokenAfter s n byte
   counted_up_to n byte = whole.count_broken s n byte
 
 module _ (s : List ℕ) (at : ℕ) (f : Field) (w : Written f) where

@@ -11,10 +11,11 @@ use Rattle.grammar.specs.declared.cut.Mode.TheVariants.{Fresh}
 use Rattle.grammar.specs.declared.cut.Cells.{Cells}
 use Rattle.grammar.specs.declared.cut.RowCut.{RowCut}
 use Rattle.grammar.specs.declared.cut.RowCut.TheVariants.{Cut, NoRow, Broken}
-use Rattle.grammar.specs.declared.count.RowsCounted.TheVariants.{All, UpTo}
+use Rattle.std.specs.Prelude.{Result, Ok, Err}
+use Rattle.grammar.specs.declared.count.BrokenSheet.{BrokenSheet}
 use Rattle.grammar.specs.Grammar.{cr, lf, Row, row_text, RowAt, ended, last, Sheet, no_row, row, BeginsWith, here, on}
 use Rattle.grammar.specs.Cut.{empty_at, no_cells, row_from, cut_row}
-use Rattle.grammar.specs.Rows.{Rows, on_row, rows_from, count_from, count_rows}
+use Rattle.grammar.specs.Rows.{Rows, on_row, rows_from, broken_at, count_from, count_rows}
 use Rattle.grammar.specs.Meaning.{SheetOf, BrokenRow, BrokenAfter, FirstFault}
 use Rattle.grammar.proofs.Found.{in_fresh, row_crlf, row_sheet, RowFound, row_found}
 use Rattle.grammar.proofs.Unique.{row_unique, no_row_at, rows_unique}
@@ -70,18 +71,18 @@ leads_sheet (on a l) s = row a (leads_sheet l s)
 
 -- what is read of a sheet from a position on
 data Reading (s : List ℕ) (at : ℕ) (rows : Rows) : Type 0 where
-  is_sheet : (rs : List Row) → Sheet (drop at s) rs → ((n : ℕ) → count_from n rows ≡ All (n + length rs)) → Reading s at rows
+  is_sheet : (rs : List Row) → Sheet (drop at s) rs → ((n : ℕ) → count_from n rows ≡ Ok (n + length rs)) → Reading s at rows
   is_broken : (rs : List Row) (stop byte : ℕ) → BeginsWith (drop at s) rs (drop stop s) → cut_row s stop ≡ Broken byte
-      → ((n : ℕ) → count_from n rows ≡ UpTo (n + length rs) byte) → Reading s at rows
+      → ((n : ℕ) → count_from n rows ≡ Err (broken_at (n + length rs) byte)) → Reading s at rows
 
 module _ (s : List ℕ) (at : ℕ) where
   one_more : {r : Row} {rest : List ℕ} (cells : Cells) (next : ℕ) (rows : Rows) → RowAt (drop at s) r rest → drop next s ≡ rest
       → Reading s next rows → Reading s at (Rows.row cells rows)
   unfolding count_from
   one_more {r} cells next rows a e (is_sheet rs h c) =
-      is_sheet (r ∷ rs) (row a (rw e at h)) (λ n. c (n + 1) ∙ ap All (omega arith))
+      is_sheet (r ∷ rs) (row a (rw e at h)) (λ n. c (n + 1) ∙ ap {B = Result ℕ BrokenSheet} Ok (omega arith))
   one_more {r} cells next rows a e (is_broken rs stop byte l b c) =
-      is_broken (r ∷ rs) stop byte (on a (rw e at l)) b (λ n. c (n + 1) ∙ ap (λ (m : ℕ). UpTo m byte) (omega arith))
+      is_broken (r ∷ rs) stop byte (on a (rw e at l)) b (λ n. c (n + 1) ∙ ap {B = Result ℕ BrokenSheet} (λ (m : ℕ). Err (broken_at m byte)) (omega arith))
 
   turn : (cut : RowCut) → cut_row s at ≡ cut → ((next : ℕ) → at < next → next ≤ length s → Reading s next (rows_from s next)) → Reading s at (on_row cut (rows_from s))
   unfolding count_from
@@ -89,8 +90,8 @@ module _ (s : List ℕ) (at : ℕ) where
       let c = cut_is_row s at e in
       let w = cut_there s at e in
       one_more cells next (rows_from s next) c.there c.behind (more next w.0 w.1)
-  turn NoRow e more = is_sheet [] (rw (no_row_end s at e) no_row) (λ n. ap All (omega arith))
-  turn (Broken byte) e more = is_broken [] at byte here e (λ n. ap (λ (m : ℕ). UpTo m byte) (omega arith))
+  turn NoRow e more = is_sheet [] (rw (no_row_end s at e) no_row) (λ n. ap {B = Result ℕ BrokenSheet} Ok (omega arith))
+  turn (Broken byte) e more = is_broken [] at byte here e (λ n. ap {B = Result ℕ BrokenSheet} (λ (m : ℕ). Err (broken_at m byte)) (omega arith))
 
 reading : (s : List ℕ) (most at : ℕ) → length s - at < most → Reading s at (rows_from s at)
 reading s zero at h = absurd (omega arith)
@@ -105,11 +106,11 @@ no_sheet no_row n m = n refl
 no_sheet (row a h) n m = m _ _ a
 
 module _ (s : List ℕ) where
-  all_counted : Reading s 0 (rows_from s 0) → (n : ℕ) → (count_rows s ≡ All n) ↔ SheetOf s n
+  all_counted : Reading s 0 (rows_from s 0) → (n : ℕ) → (count_rows s ≡ Ok n) ↔ SheetOf s n
   unfolding count_rows
   all_counted (is_sheet rs h c) n = (
     (λ e. record { rows = rs; is = h; count = let q = c 0 in let z : 0 + length rs ≡ n = cc in omega arith }),
-    (λ o. c 0 ∙ ap All (let q = ap length (rows_unique h o.is) in let k = o.count in omega arith)),
+    (λ o. c 0 ∙ ap {B = Result ℕ BrokenSheet} Ok (let q = ap length (rows_unique h o.is) in let k = o.count in omega arith)),
   )
   all_counted (is_broken rs stop byte l b c) n = (
     (λ e. let q = c 0 in let z : ◌≡◌ {A = ℕ} 0 1 = cc in absurd (omega arith)),
@@ -120,7 +121,7 @@ module _ (s : List ℕ) where
   from_start = reading s (suc (length s)) 0 (omega arith)
 
   -- a sheet is counted whole exactly when it is one
-  pub count_exact : (n : ℕ) → (count_rows s ≡ All n) ↔ SheetOf s n
+  pub count_exact : (n : ℕ) → (count_rows s ≡ Ok n) ↔ SheetOf s n
   count_exact = all_counted from_start
 
 -- ---- where a row breaks
@@ -246,7 +247,7 @@ rows_once (on a l) here n m = absurd (m _ _ a)
 rows_once (on a l) (on b k) n m = let q = row_unique a b refl in rw (q.first, rows_once l (rw (sym q.behind) at k) n m)
 
 module _ (s : List ℕ) where
-  up_to_broken : Reading s 0 (rows_from s 0) → (n byte : ℕ) → (count_rows s ≡ UpTo n byte) ↔ BrokenAfter s n byte
+  up_to_broken : Reading s 0 (rows_from s 0) → (n byte : ℕ) → (count_rows s ≡ Err (broken_at n byte)) ↔ BrokenAfter s n byte
   unfolding count_rows
   up_to_broken (is_sheet rs h c) n byte = (
     (λ e. let q = c 0 in let z : ◌≡◌ {A = ℕ} 0 1 = cc in absurd (omega arith)),
@@ -255,8 +256,9 @@ module _ (s : List ℕ) where
   up_to_broken (is_broken rs stop b l d c) n byte = (
     (λ e.
         let q = c 0 in
-        let z : 0 + length rs ≡ n = cc in
-        let y : b ≡ byte = cc in
+        let f : broken_at (0 + length rs) b ≡ broken_at n byte = cc in
+        let z = ap (λ (x : BrokenSheet). x.rows) f in
+        let y = ap (λ (x : BrokenSheet). x.byte) f in
         record { rows = rs; rest = drop stop s; count = omega arith; leads = l; broken = rw y at (broken_row s stop rs l d) }),
     (λ o.
         let r = rows_once l o.leads (broken_none s stop d) o.broken.no_row in
@@ -266,5 +268,5 @@ module _ (s : List ℕ) where
   )
 
   -- a sheet is counted up to a row exactly when that row is the one that breaks
-  pub count_broken : (n byte : ℕ) → (count_rows s ≡ UpTo n byte) ↔ BrokenAfter s n byte
+  pub count_broken : (n byte : ℕ) → (count_rows s ≡ Err (broken_at n byte)) ↔ BrokenAfter s n byte
   count_broken = up_to_broken (from_start s)

@@ -1,10 +1,8 @@
 // What counting a sheet's rows tells.
 
-// What counting the rows of a sheet finds.
+// A sheet that is broken: so many rows, and then one that breaks at this byte.
 #[derive(Clone, Copy)]
-pub enum RowsCounted {
-    // so many rows, and the sheet ends
-    All(usize),
-    // so many rows, and then one that is broken at this byte
-    UpTo(usize, usize),
+pub struct BrokenSheet {
+    pub rows: usize,
+    pub byte: usize,
 }

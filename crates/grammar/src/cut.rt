@@ -24,7 +24,7 @@ pub struct Cell {
     pub doubled: bool,
 }
 
-// What a byte does.
+// What a byte does. Three ends, two of them good: neither `Option` nor `Result` has this shape, nor that of the cuts below.
 #[derive(Clone, Copy)]
 pub enum ByteMove {
     // the field goes on, in this mode and with this cell

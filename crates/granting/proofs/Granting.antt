@@ -6,9 +6,8 @@ use mathlib.Core.List.{List}
 use native.Mathlib.Omega.{arith}
 use borrow.Author.Tests.{eq-eqb, eqb-true}
 use lib.ListN.{get_or}
+use Rattle.std.specs.Prelude.{Option, Some, None}
 use Rattle.tables.specs.Below.{least_below, is_nothing}
-use Rattle.findings.specs.declared.Found.{Found}
-use Rattle.findings.specs.declared.Found.TheVariants.{At, Nothing}
 use Rattle.tables.proofs.Laws.{and_left, and_right, and_both, clash, least_none, none_least, least_at, at_least, not_so as untrue}
 use Rattle.phases.specs.Phase.{grants}
 use Rattle.granting.specs.Grants.{GrantAt, grants_to, grant_of, has_grant}
@@ -28,12 +27,12 @@ module _ (n : ℕ) (phase holder : List ℕ) (p : ℕ) where
   no_grant e d g =
       clash (at_grant d g) (least_none (grants_to phase holder p) n (nothing (least_below (grants_to phase holder p) n) e) d g.exists)
     where
-      nothing : (f : Found) → not (is_nothing f) ≡ false → f ≡ Nothing
-      nothing (At k) q = absurd (true≢false q)
-      nothing Nothing q = refl
+      nothing : (f : Option ℕ) → not (is_nothing f) ≡ false → f ≡ None
+      nothing (Some k) q = absurd (true≢false q)
+      nothing None q = refl
 
   -- where one is found, that door holds it
-  pub found_grant : (d : ℕ) → grant_of n phase holder p ≡ At d → GrantAt n phase holder p d
+  pub found_grant : (d : ℕ) → grant_of n phase holder p ≡ Some d → GrantAt n phase holder p d
   unfolding grant_of
   found_grant d e = let l = least_at (grants_to phase holder p) n d e in grant_at d l.0 l.1
 
@@ -42,9 +41,9 @@ module _ (n : ℕ) (phase holder : List ℕ) (p : ℕ) where
   unfolding has_grant
   has_grant_lem e = go (grant_of n phase holder p) refl e
     where
-      go : (f : Found) → grant_of n phase holder p ≡ f → not (is_nothing f) ≡ true → (d : ℕ) × GrantAt n phase holder p d
-      go (At d) q t = (d, found_grant d q)
-      go Nothing q t = absurd (false≢true t)
+      go : (f : Option ℕ) → grant_of n phase holder p ≡ f → not (is_nothing f) ≡ true → (d : ℕ) × GrantAt n phase holder p d
+      go (Some d) q t = (d, found_grant d q)
+      go None q t = absurd (false≢true t)
 
   -- and where no door holds one, none is found
   pub none_found : ((d : ℕ) → GrantAt n phase holder p d → ⊥) → has_grant n phase holder p ≡ false
@@ -60,21 +59,21 @@ module _ (n : ℕ) (phase holder : List ℕ) (p : ℕ) where
       go false e = absurd (no_grant e d g)
 
   -- the door that is found is the smallest that holds one,
-  pub found_first : (d : ℕ) → grant_of n phase holder p ≡ At d → (e : ℕ) → e < d → GrantAt n phase holder p e → ⊥
+  pub found_first : (d : ℕ) → grant_of n phase holder p ≡ Some d → (e : ℕ) → e < d → GrantAt n phase holder p e → ⊥
   unfolding grant_of
   found_first d e k lt g = clash (at_grant k g) ((least_at (grants_to phase holder p) n d e).2 k lt)
 
   -- and the smallest is found
-  pub first_found : (d : ℕ) → GrantAt n phase holder p d → ((e : ℕ) → e < d → GrantAt n phase holder p e → ⊥) → grant_of n phase holder p ≡ At d
+  pub first_found : (d : ℕ) → GrantAt n phase holder p d → ((e : ℕ) → e < d → GrantAt n phase holder p e → ⊥) → grant_of n phase holder p ≡ Some d
   unfolding grant_of
   first_found d g none =
       at_least (grants_to phase holder p) n d g.exists (at_grant d g)
       (λ e lt. untrue (grants_to phase holder p e) (λ t. let h = g.exists in none e lt (grant_at e (omega arith) t)))
 
   -- so is one that holds it where no other does
-  pub grant_is : (d : ℕ) → GrantAt n phase holder p d → ((e : ℕ) → GrantAt n phase holder p e → (e ≡ d → ⊥) → ⊥) → grant_of n phase holder p ≡ At d
+  pub grant_is : (d : ℕ) → GrantAt n phase holder p d → ((e : ℕ) → GrantAt n phase holder p e → (e ≡ d → ⊥) → ⊥) → grant_of n phase holder p ≡ Some d
   grant_is d g only = first_found d g (λ e lt h. only e h (λ is. omega arith))
 
-  pub no_door : ((d : ℕ) → GrantAt n phase holder p d → ⊥) → grant_of n phase holder p ≡ Nothing
+  pub no_door : ((d : ℕ) → GrantAt n phase holder p d → ⊥) → grant_of n phase holder p ≡ None
   unfolding grant_of
   no_door none = none_least (grants_to phase holder p) n (λ d h. untrue (grants_to phase holder p d) (λ e. none d (grant_at d h e)))

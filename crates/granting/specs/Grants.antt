@@ -1,8 +1,7 @@
 -- Which door holds a grant of a person (01, "The record": "Phases 2 to 5 hold a grant").
-use Rattle.std.specs.Prelude.{ℕ, ◌<◌, ◌≡◌, Bool, true, not, List, get_or, eqb}
+use Rattle.std.specs.Prelude.{ℕ, ◌<◌, ◌≡◌, Bool, true, not, List, get_or, eqb, Option}
 use Rattle.tables.specs.Tables.{and_also}
 use Rattle.tables.specs.Below.{least_below, is_nothing}
-use Rattle.findings.specs.declared.Found.{Found}
 use Rattle.phases.specs.Phase.{grants}
 
 -- door d is one of n doors and holds a grant of person p
@@ -16,7 +15,7 @@ unfoldable pub grants_to : List ℕ → List ℕ → ℕ → ℕ → Bool
 grants_to phase holder p d = and_also (grants (get_or phase d 0)) (eqb (get_or holder d 0) p)
 
 -- the first of n doors that does, or none
-unfoldable pub grant_of : ℕ → List ℕ → List ℕ → ℕ → Found
+unfoldable pub grant_of : ℕ → List ℕ → List ℕ → ℕ → Option ℕ
 grant_of n phase holder p = least_below (grants_to phase holder p) n
 
 -- does any of n doors?

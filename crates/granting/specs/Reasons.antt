@@ -1,7 +1,5 @@
 -- Why a card is denied, and which door is told with the reason (01, "Steps", `decide`; 02, C-12).
-use Rattle.std.specs.Prelude.{ℕ, Bool, cond, List, get_or, eqb}
-use Rattle.findings.specs.declared.Found.{Found}
-use Rattle.findings.specs.declared.Found.TheVariants.{At, Nothing}
+use Rattle.std.specs.Prelude.{ℕ, Bool, cond, List, get_or, eqb, Option, Some, None}
 use Rattle.tables.specs.Tables.{Plan, may_be}
 use Rattle.phases.specs.Answers.{reason_none, reason_away, reason_barred, reason_busy}
 use Rattle.granting.specs.Grants.{grant_of, has_grant}
@@ -19,9 +17,9 @@ first_reason site right place phase holder d p =
     reason_away
 
 -- the door that was found, 0 for none
-abbrev pub door_found : Found → ℕ
-door_found (At d) = d
-door_found Nothing = 0
+abbrev pub door_found : Option ℕ → ℕ
+door_found (Some d) = d
+door_found None = 0
 
 -- "`decide` must tell the door that is granted to the person, together with the reason": the door told with a reason, "0 with any
 -- other reason" than 3

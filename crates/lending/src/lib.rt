@@ -14,11 +14,5 @@ pub fn lend(mut start: Record, kind: Kind, door: usize, person: usize) -> Step
     ensures { result ≡ step_of start kind door person }
 {
     let told = start.step_lent(kind, door, person);
-    Step {
-        next: start,
-        answer: told.answer,
-        phase: told.phase,
-        reason: told.reason,
-        held: told.held,
-    }
+    Step::telling(start, told)
 }

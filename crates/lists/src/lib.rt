@@ -3,48 +3,46 @@
 
 ghost use Rattle.std.specs.Prelude.{◌≡◌, false, get_or, set};
 
-// The entry of a list of numbers, and 0 past its end.
-pub fn byte_at(list: &[u8], at: usize) -> u8
-    ensures { result ≡ get_or list.now at 0 }
-{
-    if at < list.len() {
-        return list[at];
-    }
-    0
+// What lent lists hold: numbers, or marks and rights; and what stands past their end.
+pub trait Entry: Copy {
+    ghost PAST_END: { Self };
+
+    const PAST_END: Self;
 }
 
-pub fn word_at(list: &[u16], at: usize) -> u16
-    ensures { result ≡ get_or list.now at 0 }
-{
-    if list.len() <= at {
-        return 0;
-    }
-    list[at]
+impl Entry for u8 {
+    ghost PAST_END = { 0 };
+
+    const PAST_END: u8 = 0;
 }
 
-// The entry of a list of marks or rights, and false past its end.
-pub fn flag_at(list: &[bool], at: usize) -> bool
-    ensures { result ≡ get_or list.now at false }
+impl Entry for u16 {
+    ghost PAST_END = { 0 };
+
+    const PAST_END: u16 = 0;
+}
+
+impl Entry for bool {
+    ghost PAST_END = { false };
+
+    const PAST_END: bool = false;
+}
+
+// The entry of a list: past its end 0 or false.
+pub fn entry_at<T: Entry>(list: &[T], at: usize) -> T
+    ensures { result ≡ get_or list.now at T.PAST_END }
 {
-    if at >= list.len() {
-        return false;
+    match list.get(at) {
+        Some(entry) => *entry,
+        None => T::PAST_END,
     }
-    list[at]
 }
 
 // The list with this entry so; past its end nothing is written.
-pub fn put_byte(list: &mut [u8], at: usize, byte: u8)
-    ensures { list.new ≡ set list.old at byte }
+pub fn put_entry<T: Entry>(list: &mut [T], at: usize, entry: T)
+    ensures { list.new ≡ set list.old at entry }
 {
     if at < list.len() {
-        list[at] = byte;
-    }
-}
-
-pub fn put_word(list: &mut [u16], at: usize, word: u16)
-    ensures { list.new ≡ set list.old at word }
-{
-    if at < list.len() {
-        list[at] = word;
+        list[at] = entry;
     }
 }

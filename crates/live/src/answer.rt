@@ -10,27 +10,14 @@ use reader::row_at;
 use record::record::Record;
 use std::io::Write;
 
-// What is known from turn to turn: the record, the number of the row that comes next, 0 for the header, where the bytes that aren't
-// answered yet lie in the list that holds them, and whether all is over.
+// What is known from turn to turn: the record, the number of the row that comes next, 0 for the header, and where the bytes that aren't
+// answered yet lie in the list that holds them.
 #[derive(Clone, Copy)]
 pub(crate) struct State {
     pub record: Record,
     pub number: usize,
     pub from: usize,
     pub end: usize,
-    pub is_over: bool,
-}
-
-// The same, but no row follows.
-pub(crate) fn over(state: State) -> State {
-    let record = state.record;
-    State {
-        record,
-        number: state.number,
-        from: state.from,
-        end: state.end,
-        is_over: true,
-    }
 }
 
 // What is known when a row was answered: the record is so, and the next row begins at this place.
@@ -40,7 +27,6 @@ fn onward(state: State, record: Record, from: usize) -> State {
         number: state.number.wrapping_add(1),
         from,
         end: state.end,
-        is_over: false,
     }
 }
 
@@ -52,55 +38,53 @@ fn is_header(row: &[u8]) -> bool {
     says_words(row, cells, b"step", b"door", b"person")
 }
 
-// The header, which is answered only where it is wrong.
-fn answer_header(rt: &(impl Print + Eprint), state: State, row: &[u8], next: usize) -> State {
+// The header, which is answered only where it is wrong. Then no row follows.
+fn answer_header(
+    rt: &(impl Print + Eprint),
+    state: State,
+    row: &[u8],
+    next: usize,
+) -> Option<State> {
     if is_header(row) {
-        let record = state.record;
-        return onward(state, record, next);
+        return Some(onward(state, state.record, next));
     }
-    say_refused(rt, Paper::BAD_FORM);
-    over(state)
+    say_refused(rt, Paper::BAD_FORM)?;
+    None
 }
 
-// A step: its event is told before its row is printed. A row of bad form is the last, and so is one that can't be told or printed.
+// A step: its event is told before its row is printed. No row follows one of bad form, nor one that can't be told or printed.
 fn answer_step<F: Write>(
     rt: &(impl Print + Eprint),
     state: State,
     row: &[u8],
     next: usize,
-    cards: &mut [u16],
     events: &mut Option<Events<'_, F>>,
-) -> State {
+) -> Option<State> {
     let mut text = [0; ROOM];
-    let record = state.record;
-    let turn = attend_once(record, row, state.number, &mut text);
+    let turn = attend_once(state.record, row, state.number, &mut text);
     let attended = turn.attended;
-    if !tell(rt, cards, attended, events) {
-        return over(state);
+    if let Some(events) = events {
+        tell(rt, attended, events)?;
     }
-    if !say(rt, part(&text, 0, attended.length)) {
-        return over(state);
+    say(rt, part(&text, 0, attended.length))?;
+    if attended.asked.kind == Kind::Unknown {
+        return None;
     }
-    let asked = attended.asked;
-    let kind = asked.kind;
-    if let Kind::Unknown = kind {
-        return over(state);
-    }
-    let changed = turn.next;
-    onward(state, changed, next)
+    Some(onward(state, turn.next, next))
 }
 
-// A row, the header or a step; the one behind it begins at this place of the list that holds them.
+// What to print with and the events' file go along through all of these. One struct of both would name their types and their lifetimes at
+// each place, and is no plainer.
+// A row, the header or a step; the one behind it begins at this place of the list that holds them. Nothing is known where no row follows.
 pub(crate) fn answer<F: Write>(
     rt: &(impl Print + Eprint),
     state: State,
     row: &[u8],
     next: usize,
-    cards: &mut [u16],
     events: &mut Option<Events<'_, F>>,
-) -> State {
+) -> Option<State> {
     if state.number == 0 {
         return answer_header(rt, state, row, next);
     }
-    answer_step(rt, state, row, next, cards, events)
+    answer_step(rt, state, row, next, events)
 }

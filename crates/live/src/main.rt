@@ -11,10 +11,10 @@ mod answer;
 mod incoming;
 mod say;
 
-use answer::{State, answer, over};
+use answer::{State, answer};
 use blank_lists::blank_sheet;
-use incoming::{Held, part, read_behind, row_in, to_front};
-use numbers::Paper;
+use incoming::{part, read_behind, row_end, to_front};
+use numbers::Numbered;
 use record::record::Record;
 use say::{Events, say_header, say_refused};
 use sheet_files::{fail, name_in, read_asked};
@@ -38,13 +38,12 @@ fn answer_last<F: Write>(
     rt: &(impl Print + Eprint),
     state: State,
     row: &[u8],
-    cards: &mut [u16],
     events: &mut Option<Events<'_, F>>,
-) -> State {
-    if row.len() == 0 && state.number > 0 {
-        return over(state);
+) {
+    if row.is_empty() && state.number > 0 {
+        return;
     }
-    over(answer(rt, state, row, 0, cards, events))
+    let _last = answer(rt, state, row, 0, events);
 }
 
 // Reads on, behind the bytes held. Where nothing more comes they are the last row. They are that too where they leave no room for more:
@@ -54,43 +53,39 @@ fn read_on<F: Write>(
     state: State,
     input: &mut impl Read,
     held: &mut [u8],
-    cards: &mut [u16],
     events: &mut Option<Events<'_, F>>,
-) -> State {
+) -> Option<State> {
     let end = to_front(held, state.from, state.end);
     match read_behind(input, held, end) {
-        Ok(0) => answer_last(rt, state, part(held, 0, end), cards, events),
-        Ok(count) => {
-            let record = state.record;
-            State {
-                record,
-                number: state.number,
-                from: 0,
-                end: end.wrapping_add(count),
-                is_over: false,
-            }
+        Ok(0) => {
+            answer_last(rt, state, part(held, 0, end), events);
+            None
         }
+        Ok(count) => Some(State {
+            record: state.record,
+            number: state.number,
+            from: 0,
+            end: end.wrapping_add(count),
+        }),
         Err(error) => {
             fail(rt, "standard input", error);
-            over(state)
+            None
         }
     }
 }
 
-// One turn: a row is answered, or more is read.
+// One turn: a row is answered, or more is read. Nothing is known where all is over.
 fn turn<F: Write>(
     rt: &(impl Print + Eprint),
     state: State,
     input: &mut impl Read,
     held: &mut [u8],
-    cards: &mut [u16],
     events: &mut Option<Events<'_, F>>,
-) -> State {
+) -> Option<State> {
     let from = state.from;
-    let end = state.end;
-    match row_in(part(held, 0, end), from) {
-        Held::Row(next) => answer(rt, state, part(held, from, next), next, cards, events),
-        Held::Part => read_on(rt, state, input, held, cards, events),
+    match row_end(part(held, 0, state.end), from) {
+        Some(next) => answer(rt, state, part(held, from, next), next, events),
+        None => read_on(rt, state, input, held, events),
     }
 }
 
@@ -131,19 +126,20 @@ fn answer_all<F: Write + Drop>(
 ) {
     let mut input = rt.reader();
     let mut held = [0u8; MOST_HELD];
-    let mut cards = no_cards();
     let mut state = State {
         record,
         number: 0,
         from: 0,
         end: 0,
-        is_over: !say_header(rt),
     };
+    if say_header(rt).is_none() {
+        return;
+    }
     for _ in 0..u64::MAX {
-        if state.is_over {
-            return;
+        match turn(rt, state, &mut input, &mut held, &mut events) {
+            Some(next) => state = next,
+            None => return,
         }
-        state = turn(rt, state, &mut input, &mut held, &mut cards, &mut events);
     }
 }
 
@@ -153,7 +149,10 @@ fn answer_with_events<R: Files + Input + Print + Eprint>(rt: &R, record: Record,
         return;
     };
     match open_events(rt, name) {
-        Ok(file) => answer_all(rt, record, Some(Events { file, name })),
+        Ok(file) => {
+            let cards = no_cards();
+            answer_all(rt, record, Some(Events { file, name, cards }));
+        }
         Err(error) => fail(rt, name, error),
     }
 }
@@ -173,14 +172,12 @@ fn answer_asked<R: Files + Env + Input + Print + Eprint>(rt: &R, record: Record)
 fn main(rt: HostRuntime) {
     let mut site = blank_sheet();
     let in_site = read_asked(&rt, 1, "site.csv", &mut site);
-    let read = read_site(&site[..in_site]);
-    let verdict = read.verdict;
-    let number = verdict.number();
-    if number != Paper::DONE {
-        if say_header(&rt) {
-            say_refused(&rt, number);
+    match read_site(&site[..in_site]) {
+        Ok(fresh) => answer_asked(&rt, fresh),
+        Err(refusal) => {
+            if say_header(&rt).is_some() {
+                let _said = say_refused(&rt, refusal.number());
+            }
         }
-        return;
     }
-    answer_asked(&rt, read.record);
 }

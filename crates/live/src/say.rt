@@ -1,91 +1,75 @@
-// What is written: rows on standard output, and events' frames in their file. Each function tells whether that went well; where it didn't,
-// standard error says why.
+// What is written: rows on standard output, and events' frames in their file. Where a write fails, standard error says why, and nothing is
+// told.
 use crate::incoming::part;
 use attend::Attended;
 use number_rows::put_row;
+use numbers::Numbered;
 use sheet_files::fail;
-use std::io::Write;
-use stream::rows::put_event;
+use std::fmt::Display;
+use std::io::{Result, Write};
+use stream::rows::{StepTold, put_event};
+use tables::MOST_DOORS;
 
-// The file that events are appended to, with its name.
+// The file that events are appended to, with its name, and whose card is at each door.
 #[derive(Drop)]
 pub(crate) struct Events<'a, F> {
     pub file: F,
     pub name: &'a str,
+    pub cards: [u16; MOST_DOORS],
 }
 
 // Room for a row that is printed, which has at most 31 bytes, and for a frame, which has at most 58.
 pub(crate) const ROOM: usize = 64;
 
-// Prints some bytes.
-pub(crate) fn say(rt: &(impl Print + Eprint), bytes: &[u8]) -> bool {
-    match rt.write_all(bytes) {
-        Ok(()) => true,
+// Whether a write went well. Where it didn't, that is said on standard error.
+fn well(rt: &impl Eprint, what: impl Display + Drop, written: Result<()>) -> Option<()> {
+    match written {
+        Ok(()) => Some(()),
         Err(error) => {
-            fail(rt, "standard output", error);
-            false
+            fail(rt, what, error);
+            None
         }
     }
 }
 
+// Prints some bytes.
+pub(crate) fn say(rt: &(impl Print + Eprint), bytes: &[u8]) -> Option<()> {
+    well(rt, "standard output", rt.write_all(bytes))
+}
+
 // Prints the header.
-pub(crate) fn say_header(rt: &(impl Print + Eprint)) -> bool {
+pub(crate) fn say_header(rt: &(impl Print + Eprint)) -> Option<()> {
     say(rt, b"row,answer,phase,reason,held\r\n")
 }
 
 // Prints the row of a sheet that is refused as a whole.
-pub(crate) fn say_refused(rt: &(impl Print + Eprint), number: u8) -> bool {
+pub(crate) fn say_refused(rt: &(impl Print + Eprint), number: u8) -> Option<()> {
     let mut text = [0; ROOM];
     let length = put_row(&mut text, 0, 0, &[number as usize, 0, 0, 0]);
     say(rt, part(&text, 0, length))
 }
 
-// A person's number as a card has it; 0 for a number that no card has.
-fn card_of(person: usize) -> u16 {
-    if person < 65536 {
-        return person as u16;
-    }
-    0
-}
-
-// Appends some bytes to the events' file.
-fn append<F: Write>(rt: &impl Eprint, events: &mut Events<'_, F>, bytes: &[u8]) -> bool {
-    match events.file.write_all(bytes) {
-        Ok(()) => true,
-        Err(error) => {
-            fail(rt, events.name, error);
-            false
-        }
+// A step with what was told of it. No card has a number that doesn't fit.
+fn told_of(attended: Attended) -> StepTold {
+    StepTold {
+        kind: attended.asked.kind,
+        door: attended.asked.door,
+        person: u16::try_from(attended.asked.person).unwrap_or(0),
+        answer: attended.told.answer.number(),
+        phase: attended.told.phase,
+        reason: attended.told.reason,
+        held: attended.told.held,
     }
 }
 
-// Appends the frame of a row's event to the events' file, if it has one and the file is asked for. The list of cards has whose card is at
-// each door.
+// Appends the frame of a row's event to the events' file, if it has one.
 pub(crate) fn tell<F: Write>(
     rt: &impl Eprint,
-    cards: &mut [u16],
     attended: Attended,
-    events: &mut Option<Events<'_, F>>,
-) -> bool {
-    let Some(events) = events else {
-        return true;
-    };
-    let asked = attended.asked;
-    let kind = asked.kind;
-    let told = attended.told;
-    let answer = told.answer;
+    events: &mut Events<'_, F>,
+) -> Option<()> {
     let mut frame = [0; ROOM];
-    let length = put_event(
-        cards,
-        kind,
-        answer.number(),
-        told.phase,
-        told.reason,
-        told.held,
-        asked.door,
-        card_of(asked.person),
-        &mut frame,
-        0,
-    );
-    append(rt, events, part(&frame, 0, length))
+    let length = put_event(&mut events.cards, told_of(attended), &mut frame, 0);
+    let written = events.file.write_all(part(&frame, 0, length));
+    well(rt, events.name, written)
 }

@@ -17,16 +17,11 @@ const LF: u8 = 10;
 pub fn put_row<'a>(out: &'a mut [u8], at: usize, first: usize, more: &'a [usize]) -> usize
     ensures { Wrote out.old at (row_of_numbers first more.now) out.new result }
 {
-    let mut next = at;
-    let mut n = first;
-    let mut i = 0;
-    while i < more.len() {
-        next = put_number(out, next, n);
+    let mut next = put_number(out, at, first);
+    for n in more {
         next = put(out, next, COMMA);
-        n = more[i];
-        i += 1;
+        next = put_number(out, next, *n);
     }
-    next = put_number(out, next, n);
     next = put(out, next, CR);
     put(out, next, LF)
 }

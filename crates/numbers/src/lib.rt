@@ -2,7 +2,11 @@
 // a text written. 01, "Numbers given back", and 02. The definitions have the same numbers in specs/Numbers.antt.
 #![tactic(auto)]
 
-// The papers' numbers.
+ghost use Rattle.std.specs.Prelude.{◌≡◌, ℕ};
+ghost use Rattle.numbers.specs.Told.{told_no};
+
+// The papers' numbers. Constants and no enum: 0 to 10 mean one thing for a sheet, 11 to 14 another for a step, and each enum of answers
+// in the crates above has its own part of them by `Numbered`.
 #[derive(Clone, Copy)]
 pub struct Paper;
 
@@ -54,4 +58,25 @@ impl Paper {
 
     // bytes that are no syslog line of ours
     pub const NOT_A_LINE: u8 = 15;
+}
+
+// What has one of the papers' numbers: an answer, or a refusal.
+pub trait Numbered {
+    ghost number_of: { Self → ℕ };
+
+    // The paper's number.
+    fn number(&self) -> u8
+        ensures { result ≡ number_of self.now };
+}
+
+// What is told has the number of what is done, and a refusal its own.
+impl<T, E: Numbered> Numbered for Result<T, E> {
+    ghost number_of = { told_no E.number_of };
+
+    fn number(&self) -> u8 {
+        match self {
+            Ok(_) => Paper::DONE,
+            Err(refusal) => refusal.number(),
+        }
+    }
 }

@@ -6,6 +6,8 @@ use mathlib.Core.Path.{◌≡◌, refl, ap, subst, ◌∙◌}
 use mathlib.Core.Bool.{true}
 use mathlib.Core.List.{List, [], ◌∷◌}
 use lib.ListN.{get_or}
+use Rattle.std.specs.Prelude.{Ok}
+use Rattle.findings.specs.Told.{way_no, length_told}
 use Rattle.tables.specs.Below.{or_at, least_below, with_location, location_of, least_pair, some_below}
 use Rattle.tables.specs.Tables.{or_else, and_also, may_be}
 use Rattle.tables.specs.Tests.{lacks_exit, first_no_exit, strays, first_stray, joins, lacks_door, first_no_door, lacks_right, first_no_right, lets_in, shut_out, first_shut_out}
@@ -16,7 +18,8 @@ use Rattle.phases.specs.declared.table.Kind.TheVariants.{Decide, Green, Walk}
 use Rattle.phases.specs.Phase.{grants, granted}
 use Rattle.record.specs.Doors.{Shaped}
 use Rattle.tables.specs.Zero.{zeros}
-use Rattle.phases.specs.Kinds.{StepRow, allows}
+use Rattle.phases.specs.declared.table.StepRow.{StepRow}
+use Rattle.phases.specs.Kinds.{allows}
 use Rattle.granting.specs.Grants.{grants_to, grant_of, has_grant}
 use Rattle.record.specs.Sound.{Sound}
 use Rattle.door_does.specs.Does.{effect}
@@ -25,17 +28,15 @@ use Rattle.deeds.specs.Deeds.{exist_among}
 use Rattle.record.specs.Steps.{act, sound_step}
 use Rattle.record.specs.SoundTest.{sound_b}
 use Rattle.record.specs.Questions.{way_answer_of, way_written}
-use Rattle.asked_way.specs.declared.WayAnswer.TheVariants.{Length}
 use Rattle.record.specs.Run.{row_of, last_of, replies_of}
 use Rattle.record.proofs.Laws.{sound_steps, sound_stays, shaped_stays, run_sound, run_shaped}
 use Rattle.record.proofs.Tells.{sound_tells}
 use Rattle.grammar.specs.Cut.{bare_move, shut_move, move_of, end_of, field_from, pushed, row_from, cut_row}
 use Rattle.grammar.specs.Rows.{read_rows, rows_from}
 use Rattle.cell_meaning.specs.Say.{value_from, digits_from, needless_zero, number_in, content_at, same_bytes, is_word, place_in, place_among, named_from, says_words, number_at}
-use Rattle.asked_way.specs.{way_no, length_told}
 use Rattle.verdict.specs.Numbers.{verdict_no, first_place, second_place}
-use Rattle.verdict.specs.declared.Verdict.{Verdict}
-use Rattle.verdict.specs.declared.Verdict.TheVariants.{Accepted, NoExit, Stray, NoDoor, NoRight, ShutOut}
+use Rattle.verdict.specs.Verdict.{Verdict}
+use Rattle.verdict.specs.Verdict.{Accepted, NoExit, Stray, NoDoor, NoRight, ShutOut}
 use Rattle.site_lines.specs.Draft.{unmarked, site_row_fits, take_site, door_row_fits, take_door, exit_row_fits, take_exit, right_row_fits, take_right, take_line}
 use Rattle.site_lines.specs.Line.{word_named, site_line_at, site_header_at}
 use Rattle.site_lines.specs.Taking.{lines_in, read_lines}
@@ -130,11 +131,11 @@ whole_run_places =
 tested : sound_b site_of_01 ≡ true
 tested = subst (λ (x : Record). sound_b x ≡ true) sheets.6 ((sound_tells fresh_site fresh.shaped).back fresh.sound)
 
-way : (way_answer_of site_of_01 2 (9 ∷ 9 ∷ 9 ∷ []) ≡ Length 2) × (way_written site_of_01 2 (9 ∷ 9 ∷ 9 ∷ []) ≡ 1 ∷ 0 ∷ 9 ∷ [])
+way : (way_answer_of site_of_01 2 (9 ∷ 9 ∷ 9 ∷ []) ≡ Ok 2) × (way_written site_of_01 2 (9 ∷ 9 ∷ 9 ∷ []) ≡ 1 ∷ 0 ∷ 9 ∷ [])
 unfolding way_answer_of way_written way_told_in way_written_in if_room way_of way_out unless_outside unvisited
 way = (rw (tested), rw (tested))
 
-way_here : way_answer_of fresh_site 2 (9 ∷ 9 ∷ 9 ∷ []) ≡ Length 2
+way_here : way_answer_of fresh_site 2 (9 ∷ 9 ∷ 9 ∷ []) ≡ Ok 2
 way_here = ap (λ (x : Record). way_answer_of x 2 (9 ∷ 9 ∷ 9 ∷ [])) sheets.6 ∙ way.0
 
 pub twelve_cases : TwelveCases

@@ -1,11 +1,11 @@
 -- The twelve cases of paper 01 ("Twelve cases to prove"), from the sheets' own bytes, and through the steps and the questions.
 use Rattle.std.specs.Prelude.{ℕ, ◌≡◌, List, [], ◌∷◌, get_or}
 use Rattle.record.specs.declared.record.Record.{Record}
+use Rattle.findings.specs.Told.{way_no, length_told}
 use Rattle.phases.specs.declared.table.Kind.TheVariants.{Card, Decide, Green, Walk, Passed, Ack}
-use Rattle.asked_way.specs.{way_no, length_told}
 use Rattle.phases.specs.Phase.{granted}
 use Rattle.record.specs.Run.{row_of, last_of}
-use Rattle.phases.specs.Kinds.{StepRow}
+use Rattle.phases.specs.declared.table.StepRow.{StepRow}
 use Rattle.record.specs.Questions.{way_answer_of, way_written}
 use Rattle.verdict.specs.Numbers.{verdict_no, first_place, second_place}
 use Rattle.site_lines.specs.Line.{door_word, exit_word, right_word}

@@ -2,37 +2,33 @@
 -- Assumes nothing.
 use Prim.Native.Nat.{ℕ, ◌+◌, ◌*◌, ◌/◌, ◌%◌, ◌≤◌, ◌<◌}
 use mathlib.Core.Path.{◌≡◌, refl, ◌∙◌}
-use mathlib.Core.Bool.{Bool, true, false, beq, false≢true}
+use mathlib.Core.Bool.{Bool, true, false}
 use native.Mathlib.Omega.{arith}
 use borrow.Author.Tests.{lt-ltb}
 use lib.ListN.{get_or}
+use Rattle.std.proofs.lemmas.Bool.{agree_below, agree_below_at}
 use Rattle.tables.specs.Tables.{and_also}
-use Rattle.tables.specs.Below.{all_below}
-use Rattle.tables.proofs.Laws.{all_yes}
 use Rattle.phases.specs.declared.table.Kind.{Kind}
 use Rattle.phases.specs.declared.table.Kind.TheVariants.{Card, Decide, Green, Red, Walk, Tick, Passed, Lapsed, Dark, Ack, Unknown}
 use Rattle.phases.specs.Phase.{closed}
 use Rattle.phases.specs.Kinds.{kind_of, allows}
 use Rattle.phases.specs.Table.{table, asked}
 
--- the entry at i is what the rule of step i % 10 says of phase i / 10
-right_at_lem : ℕ → Bool
-right_at_lem i = beq (get_or table i false) (allows (kind_of (i % 10)) (i / 10))
+-- the entry at i, and what the rule of step i % 10 says of phase i / 10
+by_table : ℕ → Bool
+by_table i = get_or table i false
+
+by_rule : ℕ → Bool
+by_rule i = allows (kind_of (i % 10)) (i / 10)
 
 -- the computed test
-all_right : all_below right_at_lem 100 ≡ true
-unfolding all_below and_also right_at_lem table allows kind_of
+all_right : agree_below by_table by_rule 100 ≡ true
+unfolding by_table by_rule table allows kind_of
 all_right = refl
 
-pub same_bool : (a b : Bool) → beq a b ≡ true → a ≡ b
-same_bool true true e = refl
-same_bool true false e = absurd (false≢true e)
-same_bool false true e = absurd (false≢true e)
-same_bool false false e = refl
-
 at_entry : (i : ℕ) → i < 100 → get_or table i false ≡ allows (kind_of (i % 10)) (i / 10)
-unfolding right_at_lem
-at_entry i h = same_bool _ _ (all_yes right_at_lem 100 all_right i h)
+unfolding by_table by_rule
+at_entry i h = agree_below_at by_table by_rule 100 i all_right h
 
 by_number : (k : Kind) (n ph : ℕ) → kind_of n ≡ k → n < 10 → ph ≤ closed → get_or table (ph * 10 + n) false ≡ allows k ph
 by_number k n ph is small known =

@@ -70,9 +70,3 @@ names_person Lapsed = false
 names_person Dark = false
 names_person Ack = false
 names_person Unknown = false
-
--- one step of a list, as a row of a steps sheet asks for it: "Each names a door; `card` also a person."
-pub record StepRow : Type 0 where
-  pub kind : Kind
-  pub at : ℕ
-  pub person : ℕ

@@ -1,11 +1,10 @@
 // How a step or a run ends, and why a card is denied.
-ghost use Rattle.std.specs.Prelude.{◌≡◌};
 ghost use Rattle.phases.specs.Answers.{answer_no};
 
-use numbers::Paper;
+use numbers::{Numbered, Paper};
 
 // How a step or a run ends.
-#[derive(Clone, Copy)]
+#[derive(Clone, Copy, PartialEq, Eq)]
 pub enum Answer {
     // 0: done
     Done,
@@ -19,11 +18,10 @@ pub enum Answer {
     Unsound,
 }
 
-impl Answer {
-    // The paper's number of this answer.
-    pub fn number(self) -> u8
-        ensures { result ≡ answer_no self }
-    {
+impl Numbered for Answer {
+    ghost number_of = { answer_no };
+
+    fn number(&self) -> u8 {
         match self {
             Answer::Done => Paper::DONE,
             Answer::NoSuch => Paper::NO_SUCH,
@@ -34,7 +32,7 @@ impl Answer {
     }
 }
 
-// Why a card was denied.
+// Why a card was denied. Constants and no enum: the rows of a run say these numbers, 0 among them.
 #[derive(Clone, Copy)]
 pub struct Reason;
 

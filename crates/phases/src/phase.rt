@@ -1,6 +1,7 @@
 // The ten phases of a door and the two spans of its lights, each under one fixed name.
 
-// The phase of a door, a number from 0 to 9.
+// The phase of a door, a number from 0 to 9. Constants and no enum: a record that is lent may hold any byte for a phase, and its test of
+// soundness says which are none.
 #[derive(Clone, Copy)]
 pub struct Phase;
 
@@ -26,7 +27,7 @@ impl Phase {
     pub const CLOSED: u8 = 9;
 }
 
-// How long a light burns, in ticks of its door's own clock.
+// How long a light burns, in ticks of its door's own clock: numbers of the papers, and no kinds.
 #[derive(Clone, Copy)]
 pub struct Span;
 

@@ -6,7 +6,7 @@ ghost use Rattle.phases.specs.Table.{asked};
 use crate::phase::Phase;
 
 // The ten steps. A number that names none of them is an unknown step, which no phase allows.
-#[derive(Clone, Copy)]
+#[derive(Clone, Copy, PartialEq, Eq)]
 pub enum Kind {
     // a card is shown, and the door holds its person
     Card,
@@ -32,6 +32,14 @@ pub enum Kind {
     Unknown,
 }
 
+// A step of a list: its kind, its door and its person, 0 where it names none.
+#[derive(Clone, Copy, PartialEq, Eq)]
+pub struct StepRow {
+    pub kind: Kind,
+    pub at: u16,
+    pub person: u16,
+}
+
 // How many steps there are: the length of a row of the table.
 const STEPS: u8 = 10;
 
@@ -51,11 +59,12 @@ const ALLOWED: [u16; 10] = [
     0b0000010001, // closed
 ];
 
-impl Kind {
-    // The step that this number names.
-    pub fn of(number: u8) -> Self
-        ensures { result ≡ kind_of number }
-    {
+// The step that this number names.
+impl From<u8> for Kind {
+    ghost from_gives = { λ number r. r ≡ kind_of number };
+
+    #[tactic(auto, unfolding(crate::specs::Kinds::kind_of))]
+    fn from(number: u8) -> Self {
         match number {
             0 => Kind::Card,
             1 => Kind::Decide,
@@ -70,12 +79,14 @@ impl Kind {
             _ => Kind::Unknown,
         }
     }
+}
 
-    // The number of this step, as `of` names it: its place in a row of the table.
-    pub fn number(self) -> u8
-        ensures { result ≡ number_of_kind self }
-    {
-        match self {
+// The number of a step: its place in a row of the table.
+impl From<Kind> for u8 {
+    ghost from_gives = { λ kind r. r ≡ number_of_kind kind };
+
+    fn from(kind: Kind) -> Self {
+        match kind {
             Kind::Card => 0,
             Kind::Decide => 1,
             Kind::Green => 2,
@@ -89,18 +100,17 @@ impl Kind {
             Kind::Unknown => STEPS,
         }
     }
+}
 
+impl Kind {
     // Does the table allow this step in this phase?
+    #[tactic(auto, unfolding(crate::specs::Table::asked, tables::specs::Tables::and_also))]
     pub fn allowed_in(self, phase: u8) -> bool
         ensures { result ≡ asked self phase }
     {
-        let step = self.number();
-        if STEPS <= step {
-            return false;
-        }
-        if Phase::CLOSED < phase {
-            return false;
-        }
-        ALLOWED[phase as usize] >> (STEPS - 1 - step) & 1 == 1
+        let step = u8::from(self);
+        step < STEPS
+            && phase <= Phase::CLOSED
+            && ALLOWED[phase as usize] >> (STEPS - 1 - step) & 1 == 1
     }
 }

@@ -5,7 +5,6 @@
 ghost use Rattle.std.specs.Prelude.{◌≡◌, cond, length, leb};
 ghost use Rattle.program_io.specs.{Asked};
 
-use cell_meaning::Number;
 use cells::say::number_of;
 use grammar::cut::Cell;
 use sheet_files::fail;
@@ -22,16 +21,17 @@ const MOST_WORD: usize = 4096;
 pub fn write_text(rt: &(impl Print + Eprint), list: &[u8], count: usize) -> usize
     ensures { result ≡ cond (leb count (length list.now)) count 0 }
 {
-    if list.len() < count {
+    let Some(text) = list.get(..count) else {
         return NOTHING;
-    }
-    if let Err(error) = rt.write_all(&list[0..count]) {
+    };
+    if let Err(error) = rt.write_all(text) {
         fail(rt, "standard output", error);
     }
     count
 }
 
 // The number that the program's argument says, or what is to be taken without one.
+#[tactic(auto, using(crate::proofs::Asked::asked_of))]
 pub fn number_asked(rt: &impl Env, otherwise: usize) -> usize
     ensures { Asked otherwise result }
 {
@@ -42,8 +42,5 @@ pub fn number_asked(rt: &impl Env, otherwise: usize) -> usize
         end: length,
         doubled: false,
     };
-    let Number::Is(asked) = number_of(&word, whole) else {
-        return otherwise;
-    };
-    asked
+    number_of(&word, whole).unwrap_or(otherwise)
 }

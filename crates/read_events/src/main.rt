@@ -2,7 +2,6 @@
 // `stream_rows`; here is only reading and writing.
 #![tactic(auto)]
 
-use findings::Printed;
 use program_io::write_text;
 use sheet_files::read_input;
 use stream_lists::{blank_rows_text, blank_stream};
@@ -12,7 +11,7 @@ fn main(rt: HostRuntime) {
     let mut stream = blank_stream();
     let mut out = blank_rows_text();
     let length = read_input(&rt, &mut stream);
-    if let Printed::Text(written) = read_events_text(&stream[..length], &mut out) {
+    if let Ok(written) = read_events_text(&stream[..length], &mut out) {
         write_text(&rt, &out, written);
     }
 }

@@ -17,8 +17,7 @@ use Rattle.tables.specs.Rules.{SafeWay}
 use Rattle.tables.proofs.Laws.{clash, and_left, and_right}
 use Rattle.tables.proofs.WayOut.{way_is_safe}
 use Rattle.record.specs.declared.record.Record.{Record}
-use Rattle.asked_place.specs.declared.PlaceAnswer.TheVariants as place
-use Rattle.asked_grant.specs.declared.GrantAnswer.TheVariants as grant
+use Rattle.std.specs.Prelude.{Some, None, Ok}
 use Rattle.record.specs.Doors.{plan_of, Shaped}
 use Rattle.granting.specs.Grants.{GrantAt}
 use Rattle.record.specs.Sound.{Sound}
@@ -44,18 +43,18 @@ pub place_is_location : (r : Record) → Sound r → (p : ℕ) → p < r.people 
 place_is_location r s p h = may_be_location r s p (get_or r.place p 0) (s.placed p h)
 
 -- "where is a person": of a sound record and a person who exists the place itself is told
-pub place_told_lem : (r : Record) → Shaped r → Sound r → (p : ℕ) → p < r.people → place_of r p ≡ place.At (get_or r.place p 0)
+pub place_told_lem : (r : Record) → Shaped r → Sound r → (p : ℕ) → p < r.people → place_of r p ≡ Ok (get_or r.place p 0)
 unfolding place_of
 place_told_lem r sh s p h = rw ((sound_tells r sh).back s, lt-ltb p r.people h)
 
 -- "which door is granted to a person (or none)": the door that holds the person's one grant ..
-pub grant_told_lem : (r : Record) → Shaped r → Sound r → (p d : ℕ) → p < r.people → GrantAt r.doors r.phase r.holder p d → granted_to r p ≡ grant.Door d
+pub grant_told_lem : (r : Record) → Shaped r → Sound r → (p d : ℕ) → p < r.people → GrantAt r.doors r.phase r.holder p d → granted_to r p ≡ Ok (Some d)
 unfolding granted_to
 grant_told_lem r sh s p d h g =
     rw ((sound_tells r sh).back s, lt-ltb p r.people h, grant_is r.doors r.phase r.holder p d g (λ e o ne. ne (one_grant r s p d e g o)))
 
 -- .. and none where no door holds one
-pub none_told : (r : Record) → Shaped r → Sound r → (p : ℕ) → p < r.people → ((d : ℕ) → GrantAt r.doors r.phase r.holder p d → ⊥) → granted_to r p ≡ grant.Nothing
+pub none_told : (r : Record) → Shaped r → Sound r → (p : ℕ) → p < r.people → ((d : ℕ) → GrantAt r.doors r.phase r.holder p d → ⊥) → granted_to r p ≡ Ok None
 unfolding granted_to
 none_told r sh s p h none = rw ((sound_tells r sh).back s, lt-ltb p r.people h, no_door r.doors r.phase r.holder p none)
 

@@ -45,7 +45,8 @@ use Rattle.granting.specs.Grants.{GrantAt}
 use Rattle.granting.specs.Reasons.{held_with}
 use Rattle.record.specs.Sound.{Sound}
 use Rattle.record.specs.SoundTest.{sound_b}
-use Rattle.phases.specs.Kinds.{StepRow, allows, names_person}
+use Rattle.phases.specs.declared.table.StepRow.{StepRow}
+use Rattle.phases.specs.Kinds.{allows, names_person}
 use Rattle.phases.specs.Answers.{reason_busy}
 use Rattle.door_does.specs.declared.Does.{Does}
 use Rattle.door_does.specs.declared.Does.TheVariants.{Stays, Turns, Moves}

@@ -7,7 +7,8 @@ use Rattle.record.specs.declared.steps.Step.{Step}
 use Rattle.phases.specs.declared.answer.Answer.TheVariants.{Done, TooShort, Unsound}
 use Rattle.record.specs.declared.series.Ran.{Ran}
 use Rattle.phases.specs.Answers.{answer_no}
-use Rattle.phases.specs.Kinds.{StepRow, kind_of}
+use Rattle.phases.specs.declared.table.StepRow.{StepRow}
+use Rattle.phases.specs.Kinds.{kind_of}
 use Rattle.record.specs.SoundTest.{sound_b}
 use Rattle.record.specs.Steps.{step_of}
 

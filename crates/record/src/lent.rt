@@ -15,11 +15,6 @@ impl Record {
     {
         let step = self.step(kind, door, person);
         *self = step.next;
-        Told {
-            answer: step.answer,
-            phase: step.phase,
-            reason: step.reason,
-            held: step.held,
-        }
+        step.told()
     }
 }

@@ -2,7 +2,7 @@
 use crate::record::Record;
 use phases::answer::Answer;
 
-// What a run hands back: the last record, and how the run as a whole ended.
+// What a run hands back: the last record, and how the run as a whole ended. No `Result`: the record is handed back with each answer.
 #[derive(Drop)]
 pub struct Ran {
     pub next: Record,

@@ -2,14 +2,15 @@
 // door's phase afterwards, the reason and the door that is told with it.
 ghost use Rattle.std.specs.Prelude.{◌≡◌};
 ghost use Rattle.phases.specs.Kinds.{kind_of};
-ghost use Rattle.record.specs.Steps.{refused, step_of};
+ghost use Rattle.record.specs.Steps.{refused, step_of, told_by};
+ghost use Rattle.record.specs.Deeds.{telling};
 
 use crate::record::Record;
-use deeds::{UNTOLD, carry_out, judge};
+use deeds::{Told, UNTOLD, judge};
 use phases::answer::{Answer, Reason};
 use phases::table::Kind;
 
-// What a step hands back.
+// What a step hands back. The fields of `Told` stand here again, since the theorems of the steps name them as fields of a step.
 #[derive(Drop)]
 pub struct Step {
     pub next: Record,
@@ -17,6 +18,33 @@ pub struct Step {
     pub phase: u8,
     pub reason: u8,
     pub held: usize,
+}
+
+impl Step {
+    // The step that hands this record back and tells this.
+    pub fn telling(next: Record, told: Told) -> Self
+        ensures { result ≡ telling next told }
+    {
+        Step {
+            next,
+            answer: told.answer,
+            phase: told.phase,
+            reason: told.reason,
+            held: told.held,
+        }
+    }
+
+    // What is told beside the record.
+    pub fn told(&self) -> Told
+        ensures { result ≡ told_by self.now }
+    {
+        Told {
+            answer: self.answer,
+            phase: self.phase,
+            reason: self.reason,
+            held: self.held,
+        }
+    }
 }
 
 impl Record {
@@ -34,50 +62,32 @@ impl Record {
     }
 
     // A step: 14, then as it is judged and carried out.
+    #[tactic(auto, unfolding(crate::specs::Steps::step_of))]
     pub fn step(mut self, kind: Kind, door: usize, person: usize) -> Step
         ensures { result ≡ step_of self kind door person }
     {
         if !self.is_sound() {
             return self.refused(Answer::Unsound, UNTOLD);
         }
-        let mut place = self.place;
-        let mut phase = self.phase;
-        let mut holder = self.holder;
-        let mut count = self.count;
+        let mut moving = self.moving();
         let deed = judge(
-            self.people,
-            self.doors,
-            &self.origin,
-            &self.destination,
-            &self.right,
-            &place,
-            &phase,
-            &holder,
-            &count,
+            self.tables(),
+            &moving.place,
+            moving.door_lists(),
             kind,
             door,
             person,
         );
-        let told = carry_out(deed, door, &mut place, &mut phase, &mut holder, &mut count);
-        let answer = told.answer;
-        self.place = place;
-        self.phase = phase;
-        self.holder = holder;
-        self.count = count;
-        Step {
-            next: self,
-            answer,
-            phase: told.phase,
-            reason: told.reason,
-            held: told.held,
-        }
+        let told = moving.carry_out(deed, door);
+        self.hold(&moving);
+        Step::telling(self, told)
     }
 
     // A step by its number.
     pub fn step_numbered(self, number: u8, door: usize, person: usize) -> Step
         ensures { result ≡ step_of self (kind_of number) door person }
     {
-        self.step(Kind::of(number), door, person)
+        self.step(Kind::from(number), door, person)
     }
 
     // A card is shown: the door holds the person.

@@ -2,65 +2,57 @@
 use mathlib.Core.Path.{◌≡◌, refl}
 use mathlib.Core.List.{[], ◌∷◌}
 use mathlib.Core.Logic.{inl, inr}
+use Rattle.std.specs.Prelude.{ℕ, None, Result, Ok, Err, Option}
 use Rattle.numbers.specs.Numbers.{done_no, no_such_no, too_short_no, unsound_no}
-use Rattle.findings.specs.Told.{way_told_no, way_told_length}
-use Rattle.findings.specs.declared.Found.TheVariants as found
-use Rattle.findings.specs.declared.WayTold.{WayTold}
-use Rattle.findings.specs.declared.WayTold.TheVariants as told
-use Rattle.asked_place.specs.declared.PlaceAnswer.{PlaceAnswer}
-use Rattle.asked_place.specs.declared.PlaceAnswer.TheVariants as place
-use Rattle.asked_grant.specs.declared.GrantAnswer.{GrantAnswer}
-use Rattle.asked_grant.specs.declared.GrantAnswer.TheVariants as grant
-use Rattle.asked_way.specs.declared.WayAnswer.{WayAnswer}
-use Rattle.asked_way.specs.declared.WayAnswer.TheVariants as way
-use Rattle.asked_place.specs.{place_told, place_no}
-use Rattle.asked_grant.specs.{grant_told, grant_no}
-use Rattle.asked_way.specs.{length_told, way_no}
+use Rattle.findings.specs.Told.{way_told_no, way_told_length, place_told, place_no, grant_told, grant_no, length_told, way_no}
+use Rattle.findings.specs.declared.WayRefused.{WayRefused}
+use Rattle.findings.specs.declared.WayRefused.TheVariants as way
+use Rattle.findings.specs.declared.Refused.{Refused}
+use Rattle.findings.specs.declared.Refused.TheVariants as no
 use Rattle.numbers.specs.Telling.{OneOf}
 use Rattle.record_answers.specs.Enums.{EnumAnswers, EnumUnique}
 use Rattle.numbers.proofs.Alone.{alone}
+use Rattle.findings.specs.declared.TooShort.{TooShort}
 
-way_told_number : (w : WayTold) → OneOf (done_no ∷ too_short_no ∷ []) (way_told_no w)
-way_told_number (told.Length n) = inl refl
-way_told_number told.TooShort = inr (inl refl)
+way_told_number : (w : Result ℕ TooShort) → OneOf (done_no ∷ too_short_no ∷ []) (way_told_no w)
+way_told_number (Ok n) = inl refl
+way_told_number (Err short) = inr (inl refl)
 
-way_told_length_lem : (w : WayTold) → (way_told_no w ≡ done_no → ⊥) → way_told_length w ≡ 0
-way_told_length_lem (told.Length n) refused = absurd (refused refl)
-way_told_length_lem told.TooShort refused = refl
+way_told_length_lem : (w : Result ℕ TooShort) → (way_told_no w ≡ done_no → ⊥) → way_told_length w ≡ 0
+way_told_length_lem (Ok n) refused = absurd (refused refl)
+way_told_length_lem (Err short) refused = refl
 
-place_number : (a : PlaceAnswer) → OneOf (done_no ∷ no_such_no ∷ unsound_no ∷ []) (place_no a)
-place_number (place.At l) = inl refl
-place_number place.NoSuch = inr (inl refl)
-place_number place.Unsound = inr (inr (inl refl))
+place_number : (a : Result ℕ Refused) → OneOf (done_no ∷ no_such_no ∷ unsound_no ∷ []) (place_no a)
+place_number (Ok l) = inl refl
+place_number (Err no.NoSuch) = inr (inl refl)
+place_number (Err no.Unsound) = inr (inr (inl refl))
 
-place_place : (a : PlaceAnswer) → (place_no a ≡ done_no → ⊥) → place_told a ≡ 0
-place_place (place.At l) refused = absurd (refused refl)
-place_place place.NoSuch refused = refl
-place_place place.Unsound refused = refl
+place_place : (a : Result ℕ Refused) → (place_no a ≡ done_no → ⊥) → place_told a ≡ 0
+place_place (Ok l) refused = absurd (refused refl)
+place_place (Err no.NoSuch) refused = refl
+place_place (Err no.Unsound) refused = refl
 
-grant_number : (a : GrantAnswer) → OneOf (done_no ∷ no_such_no ∷ unsound_no ∷ []) (grant_no a)
-grant_number (grant.Door d) = inl refl
-grant_number grant.Nothing = inl refl
-grant_number grant.NoSuch = inr (inl refl)
-grant_number grant.Unsound = inr (inr (inl refl))
+grant_number : (a : Result (Option ℕ) Refused) → OneOf (done_no ∷ no_such_no ∷ unsound_no ∷ []) (grant_no a)
+grant_number (Ok door) = inl refl
+grant_number (Err no.NoSuch) = inr (inl refl)
+grant_number (Err no.Unsound) = inr (inr (inl refl))
 
-grant_door : (a : GrantAnswer) → (grant_no a ≡ done_no → ⊥) → grant_told a ≡ found.Nothing
-grant_door (grant.Door d) refused = absurd (refused refl)
-grant_door grant.Nothing refused = refl
-grant_door grant.NoSuch refused = refl
-grant_door grant.Unsound refused = refl
+grant_door : (a : Result (Option ℕ) Refused) → (grant_no a ≡ done_no → ⊥) → grant_told a ≡ None
+grant_door (Ok door) refused = absurd (refused refl)
+grant_door (Err no.NoSuch) refused = refl
+grant_door (Err no.Unsound) refused = refl
 
-way_number : (a : WayAnswer) → OneOf (done_no ∷ no_such_no ∷ too_short_no ∷ unsound_no ∷ []) (way_no a)
-way_number (way.Length n) = inl refl
-way_number way.NoSuch = inr (inl refl)
-way_number way.TooShort = inr (inr (inl refl))
-way_number way.Unsound = inr (inr (inr (inl refl)))
+way_number : (a : Result ℕ WayRefused) → OneOf (done_no ∷ no_such_no ∷ too_short_no ∷ unsound_no ∷ []) (way_no a)
+way_number (Ok n) = inl refl
+way_number (Err way.NoSuch) = inr (inl refl)
+way_number (Err way.TooShort) = inr (inr (inl refl))
+way_number (Err way.Unsound) = inr (inr (inr (inl refl)))
 
-way_length : (a : WayAnswer) → (way_no a ≡ done_no → ⊥) → length_told a ≡ 0
-way_length (way.Length n) refused = absurd (refused refl)
-way_length way.NoSuch refused = refl
-way_length way.TooShort refused = refl
-way_length way.Unsound refused = refl
+way_length : (a : Result ℕ WayRefused) → (way_no a ≡ done_no → ⊥) → length_told a ≡ 0
+way_length (Ok n) refused = absurd (refused refl)
+way_length (Err way.NoSuch) refused = refl
+way_length (Err way.TooShort) refused = refl
+way_length (Err way.Unsound) refused = refl
 
 pub of_enums : EnumAnswers
 of_enums =

@@ -9,10 +9,10 @@ use borrow.Author.Tests.{ltb-true, lt-ltb, le-leb, leb-true}
 use lib.ListN.{length, get_or, replicate}
 use lib.Seq.{sets}
 use lib.Dec.{ltb, leb}
+use Rattle.std.specs.Prelude.{None}
+use Rattle.findings.specs.Told.{place_told, place_no, grant_told, grant_no, length_told, way_no}
 use Rattle.tables.specs.Tables.{or_else, and_also, most_doors}
 use Rattle.tables.specs.Below.{Tells}
-use Rattle.findings.specs.declared.Found.{Found}
-use Rattle.findings.specs.declared.Found.TheVariants.{At, Nothing}
 use Rattle.tables.specs.Way.{way_of, if_room, way_told_in, way_written_in}
 use Rattle.tables.proofs.Laws.{and_left, and_right, and_both, clash, tell_le, tell_and, tell_as}
 use Rattle.record.specs.declared.record.Record.{Record}
@@ -22,12 +22,10 @@ use Rattle.door.specs.declared.Door.{Door}
 use Rattle.phases.specs.declared.answer.Answer.{Answer}
 use Rattle.phases.specs.declared.answer.Answer.TheVariants.{Done, NoSuch, NotAllowed, TooShort, Unsound}
 use Rattle.phases.specs.Answers.{answer_no, reason_none, reason_busy}
-use Rattle.asked_place.specs.{place_told, place_no}
-use Rattle.asked_grant.specs.{grant_told, grant_no}
-use Rattle.asked_way.specs.{length_told, way_no}
 use Rattle.record.specs.Doors.{door_of, Shaped}
 use Rattle.granting.specs.Grants.{grant_of}
-use Rattle.phases.specs.Kinds.{StepRow, kind_of, allows, names_person}
+use Rattle.phases.specs.declared.table.StepRow.{StepRow}
+use Rattle.phases.specs.Kinds.{kind_of, allows, names_person}
 use Rattle.record.specs.SoundTest.{sound_b}
 use Rattle.door_does.specs.declared.Does.{Does}
 use Rattle.door_does.specs.declared.Does.TheVariants.{Stays, Turns, Moves}
@@ -37,7 +35,7 @@ use Rattle.record.specs.Steps.{reason_for, no_door, act, refused, doing, exist, 
 use Rattle.deeds.specs.declared.Told.{Told}
 use Rattle.record.specs.Deeds.{telling}
 use Rattle.record.specs.Run.{Reply, last_of, replies_of, answer_told, phase_told, reason_told, held_told, rows_of, room_for, room_in, ran_of, run_of, telling_of}
-use Rattle.record.specs.Questions.{asked_no, unless_refused, place_of, grant_found, granted_to, way_answer_of, way_written, way_asked_no}
+use Rattle.record.specs.Questions.{asked_no, unless_refused, place_of, granted_to, way_answer_of, way_written, way_asked_no}
 use Rattle.tables.proofs.Cases.{either}
 use Rattle.record.proofs.Keep.{put_same}
 use Rattle.record.proofs.Fresh.{fresh_sound}
@@ -252,24 +250,19 @@ module _ (r : Record) (p : ℕ) where
           record { number = inl ((λ t. clash t s), rw s); location = λ e. absurd (fourteen (rw s at e)); refused = λ _. rw s; as_promised = place_said }
 
   grant_said : (grant_no (granted_to r p) ≡ asked_no r (ltb p r.people))
-      × (grant_told (granted_to r p) ≡ unless_refused (grant_no (granted_to r p)) (grant_of r.doors r.phase r.holder p) Nothing)
+      × (grant_told (granted_to r p) ≡ unless_refused (grant_no (granted_to r p)) (grant_of r.doors r.phase r.holder p) None)
   grant_said = (grant_as_said r p (granted_to r p) refl).1
 
   grant_tells : GrantTells r p
   unfolding granted_to
   grant_tells = go (sound_b r) refl (ltb p r.people) refl
     where
-      found : (x : Found) → (grant_no (grant_found x) ≡ 0) × (grant_told (grant_found x) ≡ x)
-      found (At d) = (refl, refl)
-      found Nothing = (refl, refl)
-
       go : (s : Bool) → sound_b r ≡ s → (b : Bool) → ltb p r.people ≡ b → GrantTells r p
       go true s true b =
-          let f = found (grant_of r.doors r.phase r.holder p) in
           record {
-            number = inr (s, inr (ltb-true p r.people b, rw (s, b) f.0));
-            a_door = λ _. rw (s, b) f.1;
-            refused = λ some. absurd (some (rw (s, b) f.0));
+            number = inr (s, inr (ltb-true p r.people b, rw (s, b)));
+            a_door = λ _. rw (s, b);
+            refused = λ some. absurd (some (rw (s, b)));
             as_promised = grant_said;
           }
       go true s false b =
@@ -336,6 +329,10 @@ of_record =
     record {
       is_sound = sound_tells;
       fresh = fresh_sound;
+      moving = λ r. refl;
+      hold = λ r place phase holder count. record { places = refl; phases = refl; holders = refl; counts = refl; plan = refl; rights = refl };
+      step_telling = λ r told. (refl, refl);
+      step_told = λ s. refl;
       step = step_tells;
       step_numbered = λ r n d p. step_tells r (kind_of n) d p;
       step_lent = lent_tells;

@@ -5,9 +5,9 @@ use mathlib.Core.Bool.{Bool}
 use mathlib.Core.List.{List}
 use mathlib.Core.Logic.{◌↔◌}
 use borrow.Author.Tests.{ne_eqb}
+use Rattle.std.specs.Prelude.{Some, None}
 use Rattle.tables.specs.Tables.{Plan}
 use Rattle.tables.specs.Below.{Tells}
-use Rattle.findings.specs.declared.Found.TheVariants.{At, Nothing}
 use Rattle.granting.specs.Grants.{GrantAt, grant_of, has_grant}
 use Rattle.granting.specs.Reasons.{first_reason, held_with}
 use Rattle.phases.specs.Answers.{reason_busy}
@@ -29,8 +29,8 @@ reason_told_lem site right place phase holder count d p n =
     ((λ e. subst (First r d p) e (reason_first r d p)), reason_only r d p n)
 
 grant_told_lem : (n : ℕ) (phase holder : List ℕ) (p : ℕ)
-    → ((d : ℕ) → (grant_of n phase holder p ≡ At d) ↔ FirstGrant n phase holder p d)
-    × ((grant_of n phase holder p ≡ Nothing) ↔ ((d : ℕ) → GrantAt n phase holder p d → ⊥))
+    → ((d : ℕ) → (grant_of n phase holder p ≡ Some d) ↔ FirstGrant n phase holder p d)
+    × ((grant_of n phase holder p ≡ None) ↔ ((d : ℕ) → GrantAt n phase holder p d → ⊥))
 unfolding has_grant
 grant_told_lem n phase holder p = (
   (λ d. ((λ e. record { grant = found_grant n phase holder p d e; before = found_first n phase holder p d e }), λ f. first_found n phase holder p d f.grant f.before)),

@@ -1,5 +1,5 @@
 -- Answers of the functions over the record are unique; what that says of each is in `specs/Unique.antt`. Assumes nothing.
-use mathlib.Core.Path.{sym, ◌∙◌}
+use mathlib.Core.Path.{sym, ◌∙◌, ◌≡◌}
 use mathlib.Core.List.{[]}
 use Rattle.numbers.proofs.Alone.{alone, beside, beside_four}
 use Rattle.record_answers.specs.Unique.{SoundUnique, RecordUnique}
@@ -19,6 +19,10 @@ record_unique =
     record {
       fresh = λ site right. alone;
       is_sound = λ r. alone;
+      moving = λ r x y a b. let e : x.place ≡ y.place = a.0 ∙ sym b.0 in let f : x.phase ≡ y.phase = a.1 ∙ sym b.1 in let g : x.holder ≡ y.holder = a.2 ∙ sym b.2 in let h : x.count ≡ y.count = a.3 ∙ sym b.3 in λ i. record { place = e i; phase = f i; holder = g i; count = h i };
+      hold = λ r place phase holder count. alone;
+      step_telling = λ r told. alone;
+      step_told = λ s. alone;
       step = λ r k d p. alone;
       step_numbered = λ r n d p. alone;
       step_lent = λ r k d p. beside;

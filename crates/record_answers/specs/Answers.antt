@@ -1,9 +1,9 @@
 -- Demand 1 of the record: each field is a public function of the crates `granting`, `sole_grants`, `soundness`, `record`, `lending`,
 -- `step_list` or `questions`, and says what follows of the definition that its promise cites.
-use Rattle.std.specs.Prelude.{ℕ, ◌≤◌, ◌<◌, ◌≡◌, Bool, true, List, ◌++◌, map, ◌⊎◌, ◌↔◌, length, get_or, drop, ltb}
+use Rattle.std.specs.Prelude.{ℕ, ◌≤◌, ◌<◌, ◌≡◌, Bool, true, List, ◌++◌, map, ◌⊎◌, ◌↔◌, length, get_or, drop, ltb, Some, None}
 use Rattle.std.proofs.lemmas.List.Edits.{sets}
+use Rattle.findings.specs.Told.{place_told, place_no, grant_told, grant_no, length_told, way_no}
 use Rattle.numbers.specs.Numbers.{done_no, no_such_no, not_allowed_no, too_short_no, unsound_no}
-use Rattle.findings.specs.declared.Found.TheVariants.{At, Nothing}
 use Rattle.tables.specs.Tables.{Plan, most_people}
 use Rattle.tables.specs.Below.{Tells}
 use Rattle.tables.specs.Rules.{Lawful}
@@ -15,21 +15,19 @@ use Rattle.phases.specs.declared.answer.Answer.TheVariants.{Done, NoSuch, NotAll
 use Rattle.record.specs.declared.steps.Step.{Step}
 use Rattle.deeds.specs.declared.Told.{Told}
 use Rattle.phases.specs.Answers.{answer_no, reason_busy}
-use Rattle.asked_place.specs.{place_told, place_no}
-use Rattle.asked_grant.specs.{grant_told, grant_no}
-use Rattle.asked_way.specs.{length_told, way_no}
 use Rattle.phases.specs.Phase.{green, denied, red}
-use Rattle.record.specs.Doors.{record_of, fresh_record, Shaped}
+use Rattle.record.specs.Doors.{record_of, fresh_record, Shaped, plan_of}
 use Rattle.granting.specs.Grants.{GrantAt, grant_of}
 use Rattle.granting.specs.Reasons.{first_reason, held_with}
 use Rattle.sole_grants.specs.Sole.{NoTwo, sole_grants}
 use Rattle.soundness.specs.SoundTest.{lists_sound}
-use Rattle.phases.specs.Kinds.{StepRow, kind_of, allows, names_person}
+use Rattle.phases.specs.declared.table.StepRow.{StepRow}
+use Rattle.phases.specs.Kinds.{kind_of, allows, names_person}
 use Rattle.tables.specs.Zero.{ZeroBeyond}
 use Rattle.record.specs.Sound.{Sound}
 use Rattle.record.specs.SoundTest.{sound_b}
-use Rattle.record.specs.Steps.{First, HeldDoor, step_of}
-use Rattle.record.specs.Deeds.{telling}
+use Rattle.record.specs.Steps.{First, HeldDoor, step_of, told_by}
+use Rattle.record.specs.Deeds.{telling, holding}
 use Rattle.record.specs.Run.{rows_of, last_of, replies_of, answer_told, phase_told, reason_told, held_told, run_of, answers_of, phases_of, reasons_of, held_of}
 use Rattle.record.specs.Questions.{asked_no, unless_refused, place_of, granted_to, way_answer_of, way_written, way_asked_no}
 use Rattle.numbers.specs.Telling.{Order, done, ◌unless◌then◌, NumberBy}
@@ -45,8 +43,8 @@ pub record FirstGrant (n : ℕ) (phase holder : List ℕ) (p d : ℕ) : Type 0 w
 pub record SoundAnswers : Type 0 where
   -- a door is told exactly when it is the smallest that holds a grant of the person, and none exactly when no door does
   pub grant_of_lem : (n : ℕ) (phase holder : List ℕ) (p : ℕ)
-      → ((d : ℕ) → (grant_of n phase holder p ≡ At d) ↔ FirstGrant n phase holder p d)
-      × ((grant_of n phase holder p ≡ Nothing) ↔ ((d : ℕ) → GrantAt n phase holder p d → ⊥))
+      → ((d : ℕ) → (grant_of n phase holder p ≡ Some d) ↔ FirstGrant n phase holder p d)
+      × ((grant_of n phase holder p ≡ None) ↔ ((d : ℕ) → GrantAt n phase holder p d → ⊥))
   -- "reason 1 .., 2 .., 3 .., the first that applies", and 0 for none, of a record that has these lists
   pub first_reason_lem : (site : Plan) (right : List Bool) (place phase holder count : List ℕ) (d p n : ℕ)
       → (first_reason site right place phase holder d p ≡ n) ↔ First (record_of site right place phase holder count) d p n
@@ -130,9 +128,9 @@ pub record PlaceTells (r : Record) (p : ℕ) : Type 0 where
 pub record GrantTells (r : Record) (p : ℕ) : Type 0 where
   pub number : NumberBy (unsound_no unless sound_b r ≡ true then no_such_no unless p < r.people then done) (grant_no (granted_to r p))
   pub a_door : grant_no (granted_to r p) ≡ done_no → grant_told (granted_to r p) ≡ grant_of r.doors r.phase r.holder p
-  pub refused : (grant_no (granted_to r p) ≡ done_no → ⊥) → grant_told (granted_to r p) ≡ Nothing
+  pub refused : (grant_no (granted_to r p) ≡ done_no → ⊥) → grant_told (granted_to r p) ≡ None
   pub as_promised : (grant_no (granted_to r p) ≡ asked_no r (ltb p r.people))
-      × (grant_told (granted_to r p) ≡ unless_refused (grant_no (granted_to r p)) (grant_of r.doors r.phase r.holder p) Nothing)
+      × (grant_told (granted_to r p) ≡ unless_refused (grant_no (granted_to r p)) (grant_of r.doors r.phase r.holder p) None)
 
 pub record WayOutTells (r : Record) (l : ℕ) (list : List ℕ) : Type 0 where
   pub number : NumberBy
@@ -147,11 +145,25 @@ pub record WayOutTells (r : Record) (l : ℕ) (list : List ℕ) : Type 0 where
   pub as_promised : (way_no (way_answer_of r l list) ≡ way_asked_no r l list)
       × (length_told (way_answer_of r l list) ≡ unless_refused (way_no (way_answer_of r l list)) (length (way_of r.locations r.exit l)) 0)
 
+pub record HeldTells (r : Record) (place phase holder count : List ℕ) (held : Record) : Type 0 where
+  pub places : held.place ≡ place
+  pub phases : held.phase ≡ phase
+  pub holders : held.holder ≡ holder
+  pub counts : held.count ≡ count
+  pub plan : plan_of held ≡ plan_of r
+  pub rights : held.right ≡ r.right
+
 pub record RecordAnswers : Type 0 where
   -- the test of soundness tells it, of every record whose lists of doors and locations are as long as its arrays
   pub is_sound : (r : Record) → Shaped r → Tells (sound_b r) (Sound r)
   -- of lawful tables with 0 beyond the counts, the fresh record is sound
   pub fresh : (site : Plan) (right : List Bool) → Lawful most_people site right → ZeroBeyond site right → Sound (fresh_record site right)
+  -- the lists that steps alter, taken out and put back, make the same record; others put in stand there, and all else is as it was
+  pub moving : (r : Record) → holding r r.place r.phase r.holder r.count ≡ r
+  pub hold : (r : Record) (place phase holder count : List ℕ) → HeldTells r place phase holder count (holding r place phase holder count)
+  -- a step is its record and what it tells
+  pub step_telling : (r : Record) (told : Told) → ((telling r told).next ≡ r) × (told_by (telling r told) ≡ told)
+  pub step_told : (s : Step) → telling s.next (told_by s) ≡ s
   pub step : (r : Record) (k : Kind) (d p : ℕ) → StepTells r k d p (step_of r k d p)
   pub step_numbered : (r : Record) (n d p : ℕ) → StepTells r (kind_of n) d p (step_of r (kind_of n) d p)
   -- "finds it altered, or as it was after a refusal": what is said of a step is said of the record that is lent and of what is told;

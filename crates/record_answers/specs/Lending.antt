@@ -7,7 +7,7 @@ use Rattle.deeds.specs.declared.Told.{Told}
 use Rattle.phases.specs.declared.table.Kind.{Kind}
 use Rattle.phases.specs.declared.answer.Answer.TheVariants.{Unsound}
 use Rattle.phases.specs.Answers.{answer_no}
-use Rattle.phases.specs.Kinds.{StepRow}
+use Rattle.phases.specs.declared.table.StepRow.{StepRow}
 use Rattle.record.specs.SoundTest.{sound_b}
 use Rattle.record.specs.Steps.{step_of, told_by}
 use Rattle.record.specs.Run.{Reply, rows_of, last_of, replies_of, answer_told, phase_told, reason_told, held_told, run_of, answers_of, phases_of, reasons_of, held_of}

@@ -1,9 +1,10 @@
 -- Answers of the functions of the crates `granting`, `sole_grants`, `soundness`, `record`, `lending`, `step_list` and `questions` are
 -- unique: whatever a promise allows, the answer and what each lent list and the lent record hold at exit, is one thing. The promise stands as in the
 -- function's `ensures`.
-use Rattle.std.specs.Prelude.{ℕ, ◌≡◌, Bool, List, length, get_or, ltb}
-use Rattle.findings.specs.declared.Found.{Found}
-use Rattle.findings.specs.declared.Found.TheVariants.{Nothing}
+use Rattle.std.specs.Prelude.{ℕ, ◌≡◌, Bool, List, length, get_or, ltb, Option, None, Result}
+use Rattle.findings.specs.Told.{place_told, place_no, grant_told, grant_no, length_told, way_no}
+use Rattle.findings.specs.declared.WayRefused.{WayRefused}
+use Rattle.findings.specs.declared.Refused.{Refused}
 use Rattle.tables.specs.Tables.{Plan, plan}
 use Rattle.tables.specs.Way.{way_of}
 use Rattle.record.specs.declared.record.Record.{Record}
@@ -12,12 +13,6 @@ use Rattle.phases.specs.declared.table.Kind.TheVariants.{Card, Decide, Green, Re
 use Rattle.record.specs.declared.steps.Step.{Step}
 use Rattle.deeds.specs.declared.Told.{Told}
 use Rattle.record.specs.declared.series.Ran.{Ran}
-use Rattle.asked_place.specs.declared.PlaceAnswer.{PlaceAnswer}
-use Rattle.asked_grant.specs.declared.GrantAnswer.{GrantAnswer}
-use Rattle.asked_way.specs.declared.WayAnswer.{WayAnswer}
-use Rattle.asked_place.specs.{place_told, place_no}
-use Rattle.asked_grant.specs.{grant_told, grant_no}
-use Rattle.asked_way.specs.{length_told, way_no}
 use Rattle.granting.specs.Grants.{grant_of}
 use Rattle.granting.specs.Reasons.{first_reason, held_with}
 use Rattle.sole_grants.specs.Sole.{sole_grants}
@@ -29,9 +24,11 @@ use Rattle.record.specs.Steps.{step_of, told_by}
 use Rattle.record.specs.Run.{run_of, answers_of, phases_of, reasons_of, held_of}
 use Rattle.record.specs.Questions.{asked_no, unless_refused, place_of, granted_to, way_answer_of, way_written, way_asked_no}
 use Rattle.numbers.specs.Telling.{Unique}
+use Rattle.record.specs.Deeds.{holding, telling}
+use Rattle.deeds.specs.declared.Moving.{Moving}
 
 pub record SoundUnique : Type 0 where
-  pub grant_of_lem : (n : ℕ) (phase holder : List ℕ) (p : ℕ) → Unique (λ (x : Found). x ≡ grant_of n phase holder p)
+  pub grant_of_lem : (n : ℕ) (phase holder : List ℕ) (p : ℕ) → Unique (λ (x : Option ℕ). x ≡ grant_of n phase holder p)
   pub first_reason_lem : (doors : ℕ) (origin destination : List ℕ) (right : List Bool) (place phase holder : List ℕ) (d p : ℕ)
       → Unique
       (λ (x : ℕ). (people locations : ℕ) (exit : List ℕ) → x ≡ first_reason (plan people locations doors origin destination exit) right place phase holder d p)
@@ -43,6 +40,10 @@ pub record SoundUnique : Type 0 where
 pub record RecordUnique : Type 0 where
   pub fresh : (site : Plan) (right : List Bool) → Unique (λ (x : Record). x ≡ fresh_record site right)
   pub is_sound : (r : Record) → Unique (λ (x : Bool). x ≡ sound_b r)
+  pub moving : (r : Record) → Unique (λ (x : Moving). (x.place ≡ r.place) × (x.phase ≡ r.phase) × (x.holder ≡ r.holder) × (x.count ≡ r.count))
+  pub hold : (r : Record) (place phase holder count : List ℕ) → Unique (λ (x : Record). x ≡ holding r place phase holder count)
+  pub step_telling : (r : Record) (told : Told) → Unique (λ (x : Step). x ≡ telling r told)
+  pub step_told : (s : Step) → Unique (λ (x : Told). x ≡ told_by s)
   pub step : (r : Record) (k : Kind) (d p : ℕ) → Unique (λ (x : Step). x ≡ step_of r k d p)
   pub step_numbered : (r : Record) (n d p : ℕ) → Unique (λ (x : Step). x ≡ step_of r (kind_of n) d p)
   pub lend : (r : Record) (k : Kind) (d p : ℕ) → Unique (λ (x : Step). x ≡ step_of r k d p)
@@ -71,18 +72,18 @@ pub record RecordUnique : Type 0 where
   -- the answer, its number and its value
   pub place_of_lem : (r : Record) (p : ℕ)
       → Unique
-      (λ (x : PlaceAnswer).
+      (λ (x : Result ℕ Refused).
       (x ≡ place_of r p) × (place_no x ≡ asked_no r (ltb p r.people)) × (place_told x ≡ unless_refused (place_no x) (get_or r.place p 0) 0))
   pub granted_to_lem : (r : Record) (p : ℕ)
       → Unique
-      (λ (x : GrantAnswer).
+      (λ (x : Result (Option ℕ) Refused).
       (x ≡ granted_to r p)
       × (grant_no x ≡ asked_no r (ltb p r.people))
-      × (grant_told x ≡ unless_refused (grant_no x) (grant_of r.doors r.phase r.holder p) Nothing))
+      × (grant_told x ≡ unless_refused (grant_no x) (grant_of r.doors r.phase r.holder p) None))
   -- the same, and the lent list at exit
   pub way_out_lem : (r : Record) (l : ℕ) (list : List ℕ)
       → Unique
-      (λ (x : WayAnswer × List ℕ).
+      (λ (x : Result ℕ WayRefused × List ℕ).
       (x.0 ≡ way_answer_of r l list)
       × (way_no x.0 ≡ way_asked_no r l list)
       × (length_told x.0 ≡ unless_refused (way_no x.0) (length (way_of r.locations r.exit l)) 0)

@@ -17,6 +17,7 @@ mod write;
 use ask::ask;
 use blank_lists::blank_sheet;
 use grammar::cut::{Cells, RowCut};
+use numbers::Numbered;
 use put::with_field;
 use reader::row_at;
 use record::record::Record;
@@ -24,7 +25,8 @@ use sheet_files::read_sheet;
 use site::read_site;
 use std::fs::Files;
 use step::do_step;
-use words::{PEOPLE, SITE, SOUND, word_number};
+use tables::{MOST_DOORS, MOST_LOCATIONS, MOST_RIGHTS};
+use words::{CaseWord, case_word};
 use write::{number_or_0, write_end, write_next, write_row};
 
 // The sheets of sites, by the last digit of their numbers.
@@ -41,36 +43,43 @@ const SITES: [&str; 10] = [
     "9-site.csv",
 ];
 
+// The record of no site.
+fn blank_record() -> Record {
+    Record::fresh(
+        0,
+        0,
+        0,
+        [0; MOST_DOORS],
+        [0; MOST_DOORS],
+        [0; MOST_LOCATIONS],
+        [false; MOST_RIGHTS],
+    )
+}
+
 // The fresh record of a site sheet, or the blank one of a refused sheet.
 fn take_site(rt: &(impl Files + Print + Eprint), n: usize) -> Record {
     let mut sheet = blank_sheet();
     let length = read_sheet(rt, SITES[n % 10], &mut sheet);
-    let answer = read_site(&sheet[..length]);
-    let verdict = answer.verdict;
-    write_next(rt, verdict.number() as u64);
-    answer.record
+    let read = read_site(&sheet[..length]);
+    write_next(rt, u64::from(read.number()));
+    read.unwrap_or(blank_record())
 }
 
-// Prints a row and does what it says.
+// Prints a row and does what it says. A row with another word leaves the record as it is.
 fn take_row(rt: &(impl Files + Print + Eprint), s: &[u8], cells: Cells, record: Record) -> Record {
     write_row(rt, s, cells);
-    let first = cells.first;
-    let second = cells.second;
-    let third = cells.third;
-    let a = number_or_0(s, second);
-    let b = number_or_0(s, third);
-    let word = word_number(s, first);
-    if word < SITE {
-        return do_step(rt, word, a, b, record);
+    let a = number_or_0(s, cells.second);
+    let b = number_or_0(s, cells.third);
+    match case_word(s, cells.first) {
+        Some(CaseWord::Step(kind)) => do_step(rt, kind, a, b, record),
+        Some(CaseWord::Site) => take_site(rt, a),
+        Some(CaseWord::Asks(question)) => {
+            ask(rt, question, a, b, record);
+            record
+        }
+        Some(CaseWord::Puts(field)) => with_field(field, a, b, record),
+        None => record,
     }
-    if word < SOUND {
-        return take_site(rt, a);
-    }
-    if word < PEOPLE {
-        ask(rt, word, a, b, record);
-        return record;
-    }
-    with_field(word, a, b, record)
 }
 
 // The rows of a sheet, one after the other; there are no more of them than bytes.
@@ -90,6 +99,5 @@ fn take_rows(rt: &(impl Files + Print + Eprint), s: &[u8], blank: Record) {
 fn main(rt: HostRuntime) {
     let mut cases = blank_sheet();
     let length = read_sheet(&rt, "cases.csv", &mut cases);
-    let refused = read_site(b"");
-    take_rows(&rt, &cases[..length], refused.record);
+    take_rows(&rt, &cases[..length], blank_record());
 }

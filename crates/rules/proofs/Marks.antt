@@ -4,7 +4,6 @@ use mathlib.Core.Path.{◌≡◌, refl, sym, ap, ◌∙◌}
 use mathlib.Core.Bool.{Bool, true, false, not}
 use mathlib.Core.List.{List}
 use mathlib.Core.Logic.{⊎_elim}
-use native.Mathlib.Numerals.{add-one}
 use native.Mathlib.Omega.{arith}
 use borrow.Author.Tests.{eqb-true, eq-eqb}
 use lib.ListN.{length, get_or, set, replicate, length-set, length-replicate}
@@ -15,13 +14,9 @@ use Rattle.tables.specs.Below.{some_below}
 use Rattle.tables.specs.Tests.{joins, lets_in, shut_out}
 use Rattle.tables.proofs.Laws.{no_right_past, clash, not_so, and_left, and_right, and_both, some_yes, some_back, tell_itself, tell_same}
 use Rattle.tables.proofs.Zero.{same_at}
+use Rattle.tables.proofs.Chains.{some_more}
 use Rattle.tables.proofs.Cases.{below_or_not, same_or_not}
 use Rattle.rules.specs.Marks.{most_marks, is_first, has_no_first}
-
--- some below n + 1: some below n, or n itself
-some_more : (test : ℕ → Bool) (n : ℕ) → some_below test (n + 1) ≡ or_else (some_below test n) (test n)
-unfolding some_below
-some_more test n = ap (some_below test) (add-one n)
 
 module _ (names : ℕ → ℕ → Bool) where
   -- the walk has come to door d of n; location l is marked exactly when a door before d names it

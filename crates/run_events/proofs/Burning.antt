@@ -21,7 +21,8 @@ use Rattle.phases.specs.declared.table.Kind.TheVariants.{Green, Red, Walk, Tick}
 use Rattle.phases.specs.declared.answer.Answer.TheVariants.{Done}
 use Rattle.phases.specs.Answers.{answer_no}
 use Rattle.phases.specs.Phase.{green, walked, expired, red, dimmed, green_span, red_span, lit}
-use Rattle.phases.specs.Kinds.{StepRow, number_of_kind, allows}
+use Rattle.phases.specs.declared.table.StepRow.{StepRow}
+use Rattle.phases.specs.Kinds.{number_of_kind, allows}
 use Rattle.record.specs.declared.record.Record.{Record}
 use Rattle.record.specs.declared.steps.Step.{Step}
 use Rattle.record.specs.Doors.{door_of, Shaped}

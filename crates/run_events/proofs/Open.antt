@@ -13,7 +13,7 @@ use Rattle.door.specs.Door.{free_door}
 use Rattle.phases.specs.declared.table.Kind.{Kind}
 use Rattle.phases.specs.declared.table.Kind.TheVariants.{Card, Decide, Green, Red, Walk, Tick, Passed, Lapsed, Dark, Ack, Unknown}
 use Rattle.phases.specs.Answers.{answer_no, reason_busy}
-use Rattle.phases.specs.Kinds.{StepRow}
+use Rattle.phases.specs.declared.table.StepRow.{StepRow}
 use Rattle.record.specs.declared.record.Record.{Record}
 use Rattle.record.specs.Doors.{door_of, Shaped}
 use Rattle.record.specs.Sound.{Sound}

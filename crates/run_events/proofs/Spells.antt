@@ -12,7 +12,8 @@ use Rattle.door.specs.declared.Door.{Door}
 use Rattle.phases.specs.declared.table.Kind.{Kind}
 use Rattle.phases.specs.declared.table.Kind.TheVariants.{Card, Decide, Green, Red, Walk, Tick, Passed, Lapsed, Dark, Ack, Unknown}
 use Rattle.phases.specs.Phase.{read, walked, expired, grants}
-use Rattle.phases.specs.Kinds.{StepRow, allows}
+use Rattle.phases.specs.declared.table.StepRow.{StepRow}
+use Rattle.phases.specs.Kinds.{allows}
 use Rattle.record.specs.declared.record.Record.{Record}
 use Rattle.record.specs.Doors.{door_of, Shaped}
 use Rattle.record.specs.Sound.{Sound}

@@ -15,7 +15,7 @@ use Rattle.phases.specs.declared.table.Kind.{Kind}
 use Rattle.phases.specs.declared.answer.Answer.{Answer}
 use Rattle.phases.specs.declared.answer.Answer.TheVariants.{Done, NoSuch, NotAllowed, TooShort, Unsound}
 use Rattle.phases.specs.Answers.{answer_no}
-use Rattle.phases.specs.Kinds.{StepRow}
+use Rattle.phases.specs.declared.table.StepRow.{StepRow}
 use Rattle.granting.specs.Reasons.{held_with}
 use Rattle.record.specs.declared.record.Record.{Record}
 use Rattle.record.specs.declared.steps.Step.{Step}

@@ -20,7 +20,8 @@ use Rattle.phases.specs.declared.table.Kind.{Kind}
 use Rattle.phases.specs.declared.table.Kind.TheVariants.{Card, Decide, Green, Red, Walk, Tick, Passed, Lapsed, Dark, Ack, Unknown}
 use Rattle.phases.specs.declared.answer.Answer.TheVariants.{Done}
 use Rattle.phases.specs.Phase.{free, read, walked, expired, grants}
-use Rattle.phases.specs.Kinds.{StepRow, allows}
+use Rattle.phases.specs.declared.table.StepRow.{StepRow}
+use Rattle.phases.specs.Kinds.{allows}
 use Rattle.record.specs.declared.record.Record.{Record}
 use Rattle.record.specs.Doors.{door_of, Shaped}
 use Rattle.record.specs.Sound.{Sound}

@@ -1,7 +1,7 @@
 -- What is heard of a run: each step with what it answered (01, "Steps").
 use Rattle.std.specs.Prelude.{List, [], ◌∷◌}
 use Rattle.record.specs.declared.record.Record.{Record}
-use Rattle.phases.specs.Kinds.{StepRow}
+use Rattle.phases.specs.declared.table.StepRow.{StepRow}
 use Rattle.record.specs.Run.{Reply, replies_of}
 
 -- a step, and "A step answers its number, the door's phase afterwards .. and the reason", with its door

@@ -8,7 +8,7 @@ use Rattle.phases.specs.declared.table.Kind.TheVariants.{Card, Decide, Green, Re
 use Rattle.phases.specs.declared.answer.Answer.TheVariants.{Done}
 use Rattle.phases.specs.Answers.{answer_no}
 use Rattle.phases.specs.Phase.{free, read, grants}
-use Rattle.phases.specs.Kinds.{StepRow}
+use Rattle.phases.specs.declared.table.StepRow.{StepRow}
 use Rattle.record.specs.declared.steps.Step.{Step}
 use Rattle.record.specs.Doors.{door_of}
 use Rattle.record.specs.Steps.{reason_for, held_for}

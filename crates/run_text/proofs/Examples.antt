@@ -18,7 +18,8 @@ use Rattle.phases.specs.declared.table.Kind.TheVariants.{Card, Decide, Green, Re
 use Rattle.phases.specs.Phase.{grants}
 use Rattle.record.specs.Doors.{Shaped, fresh_record}
 use Rattle.tables.specs.Zero.{zeros}
-use Rattle.phases.specs.Kinds.{StepRow, kind_of, allows}
+use Rattle.phases.specs.declared.table.StepRow.{StepRow}
+use Rattle.phases.specs.Kinds.{kind_of, allows}
 use Rattle.granting.specs.Grants.{grants_to, grant_of, has_grant}
 use Rattle.record.specs.Sound.{Sound}
 use Rattle.door_does.specs.Does.{effect}
@@ -30,17 +31,17 @@ use Rattle.record.proofs.Laws.{sound_steps, sound_stays, shaped_stays}
 use Rattle.grammar.specs.Cut.{bare_move, shut_move, move_of, end_of, field_from, pushed, row_from, cut_row}
 use Rattle.grammar.specs.Rows.{read_rows, rows_from}
 use Rattle.cell_meaning.specs.Say.{value_from, digits_from, needless_zero, number_in, content_at, same_bytes, is_word, place_in, place_among, named_from, says_words, number_at}
-use Rattle.site_sheet.specs.declared.SiteRead.{SiteRead}
+use Rattle.site_sheet.specs.Site.{SiteRead}
 use Rattle.site_sheet.specs.Accepted.{AcceptedRecord}
-use Rattle.verdict.specs.declared.Verdict.TheVariants.{Accepted, NoSite}
+use Rattle.verdict.specs.Verdict.{Accepted, NoSite}
 use Rattle.site_lines.specs.Draft.{unmarked, site_row_fits, take_site, door_row_fits, take_door, exit_row_fits, take_exit, right_row_fits, take_right, take_line}
 use Rattle.site_lines.specs.Line as site
 use Rattle.site_lines.specs.Taking.{lines_in, read_lines}
 use Rattle.site_sheet.specs.Site.{judged_draft, settled, after_header, site_at, site_of, refused_site}
 use Rattle.grammar.specs.Sizes.{limit}
 use Rattle.site_sheet.proofs.Theorems.{accepted_holds}
-use Rattle.steps_sheet.specs.declared.Heading.{Heading}
-use Rattle.steps_sheet.specs.declared.Heading.TheVariants.{Wrong, Rows}
+use Rattle.steps_sheet.specs.Heading.{Heading}
+use Rattle.steps_sheet.specs.Heading.{Wrong, Rows}
 use Rattle.steps_sheet.specs.Says.{Steps}
 use Rattle.steps_sheet.specs.Steps.{person_at, steps_line_at, steps_header_at, heading_at, heading_of, steps_in, steps_from}
 use Rattle.run_text.specs.Printed.{answer_rows, run_text, alone_text, ran_text, steps_text, panel_text, place_rows, places_text, record_text, last_record, where_text}

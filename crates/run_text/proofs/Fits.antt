@@ -18,7 +18,8 @@ use Rattle.phases.specs.declared.answer.Answer.TheVariants.{Done, NoSuch, NotAll
 use Rattle.record.specs.declared.steps.Step.{Step}
 use Rattle.phases.specs.Answers.{answer_no}
 use Rattle.record.specs.Doors.{plan_of, door_of, Shaped}
-use Rattle.phases.specs.Kinds.{StepRow, allows}
+use Rattle.phases.specs.declared.table.StepRow.{StepRow}
+use Rattle.phases.specs.Kinds.{allows}
 use Rattle.record.specs.Sound.{Sound}
 use Rattle.record.specs.SoundTest.{sound_b}
 use Rattle.door_does.specs.declared.Does.{Does}

@@ -7,6 +7,7 @@ use mathlib.Core.List.{List, [], ◌∷◌, map}
 use native.Mathlib.Omega.{arith}
 use lib.ListN.{length, take, length-map}
 use lib.Seq.{sets, sets-eq, take-append_seam}
+use Rattle.std.specs.Prelude.{Ok}
 use Rattle.tables.specs.Tables.{and_also}
 use Rattle.tables.proofs.Laws.{tell_and, tell_le}
 use Rattle.grammar.specs.Sizes.{limit}
@@ -15,7 +16,7 @@ use Rattle.record.specs.declared.series.Ran.{Ran}
 use Rattle.phases.specs.declared.answer.Answer.TheVariants.{Done}
 use Rattle.record.specs.SoundTest.{sound_b}
 use Rattle.record.specs.Run.{Reply, rows_of, row_of, last_of, replies_of, answer_told, phase_told, reason_told, held_told, room_for, room_in, ran_of, telling_of, run_of}
-use Rattle.phases.specs.Kinds.{StepRow}
+use Rattle.phases.specs.declared.table.StepRow.{StepRow}
 use Rattle.phases.proofs.Steps.{kind_back}
 use Rattle.steps_sheet.specs.declared.Decoded.{Decoded}
 use Rattle.steps_sheet.specs.Says.{Steps}
@@ -57,14 +58,16 @@ room_most bytes kinds doors persons h k d p =
     (omega arith, (omega arith, omega arith))
 
 -- what was decoded into lists with room
-module _ (steps : Steps) (room : Bool) (yes : room ≡ true) {d : Decoded} (is : d ≡ decoded_of room steps) where
-  pub count_is : d.count ≡ length steps.rows
+module _ (steps : Steps) (room : Bool) (yes : room ≡ true) {d : Decoded} (is : Ok d ≡ decoded_of room steps) where
+  told_as : d ≡ record { count = length steps.rows; whole = steps.whole }
   unfolding decoded_of
-  count_is = ap (λ (x : Decoded). x.count) is ∙ rw yes
+  told_as = let z : Ok d ≡ Ok (record { count = length steps.rows; whole = steps.whole }) = is ∙ rw yes in cc
+
+  pub count_is : d.count ≡ length steps.rows
+  count_is = ap (λ (x : Decoded). x.count) told_as
 
   pub whole_is : d.whole ≡ steps.whole
-  unfolding decoded_of
-  whole_is = ap (λ (x : Decoded). x.whole) is ∙ rw yes
+  whole_is = ap (λ (x : Decoded). x.whole) told_as
 
   list_is : (column : StepRow → ℕ) (list₀ : List ℕ) {list : List ℕ} → d.count ≤ length list₀ → list ≡ listed room (map column steps.rows) list₀
       → take d.count list ≡ map column steps.rows

@@ -4,10 +4,10 @@ use Rattle.numbers.specs.Numbers.{done_no, too_long_no, bad_form_no}
 use Rattle.text.specs.Text.{row_of_numbers}
 use Rattle.record.specs.declared.record.Record.{Record}
 use Rattle.record.specs.Run.{Reply, last_of, replies_of}
-use Rattle.site_sheet.specs.declared.SiteRead.{SiteRead}
+use Rattle.site_sheet.specs.Site.{SiteRead}
 use Rattle.site_sheet.specs.Site.{site_of, verdict_no}
-use Rattle.steps_sheet.specs.declared.Heading.{Heading}
-use Rattle.steps_sheet.specs.declared.Heading.TheVariants.{TooLong, Wrong, Rows}
+use Rattle.steps_sheet.specs.Heading.{Heading}
+use Rattle.steps_sheet.specs.Heading.{TooLong, Wrong, Rows}
 use Rattle.steps_sheet.specs.Says.{Steps}
 use Rattle.steps_sheet.specs.Steps.{heading_of, steps_from}
 use Rattle.run_text.specs.declared.serve.Served.{Served}

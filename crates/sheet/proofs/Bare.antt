@@ -1,11 +1,10 @@
 -- A row of three fields without quotes that ends in CRLF: where `cut_row` cuts it, told by its two commas and its CRLF.
 -- Assumes nothing.
-use Prim.Native.Nat.{ℕ, zero, suc, ◌+◌, ◌-◌, ◌≤◌, ◌<◌}
+use Prim.Native.Nat.{ℕ, zero, suc, ◌+◌, ◌-◌, ◌<◌}
 use mathlib.Core.Path.{◌≡◌, refl, sym, ◌∙◌}
 use mathlib.Core.Bool.{Bool, true, false, cond, false≢true}
 use mathlib.Core.List.{List}
 use native.Mathlib.Omega.{arith}
-use borrow.Author.Count.{below_more}
 use borrow.Author.Tests.{ltb-true, eqb-true, ne_eqb}
 use lib.ListN.{length, get_or, drop}
 use lib.Dec.{ltb, eqb}
@@ -17,16 +16,7 @@ use Rattle.grammar.specs.declared.cut.FieldCut.TheVariants.{Next, Last}
 use Rattle.grammar.specs.declared.cut.RowCut.TheVariants.{Cut}
 use Rattle.grammar.specs.Cut.{empty_at, up_to, bare_move, move_of, field_from, cut_field, pushed, cut_row}
 use Rattle.grammar.proofs.Steps.{field_more, field_turn, row_start, row_more, row_turn}
-use Rattle.sheet.specs.Bare.{BareUpTo, has_at}
-
-module _ {s : List ℕ} {at : ℕ} where
-  pub bare_start : BareUpTo s at at
-  bare_start = record { onward = omega arith; bare = λ i h k. absurd (omega arith) }
-
-  pub bare_more : {i : ℕ} → BareUpTo s at i → comma < get_or s i 0 → BareUpTo s at (i + 1)
-  bare_more {i} so h =
-      let low = so.onward in
-      record { onward = omega arith; bare = below_more (λ (k : ℕ). at ≤ k → comma < get_or s k 0) i so.bare (λ _. h) }
+use Rattle.sheet.specs.Bare.{BareUpTo, BareTo, has_at}
 
 -- a bare field from `start` up to `end`
 abbrev bare_cell : ℕ → ℕ → Cell
@@ -86,14 +76,18 @@ module _ (s : List ℕ) (at byte : ℕ) where
   unfolding has_at
   has_same e = eqb-true (get_or s at 0) byte (both (ltb at (length s)) (eqb (get_or s at 0) byte) e).1
 
+-- a bare field that a byte ends is ended within the sheet
+pub to_within : {s : List ℕ} {at end byte : ℕ} → BareTo s at end byte → end < length s
+to_within {s} {end = end} {byte} b = has_within s end byte b.ends
+
 -- three bare fields, with commas behind the first two and CRLF behind the third
-module _ {s : List ℕ} {at first second third : ℕ} (a : BareUpTo s at first) (b : BareUpTo s (first + 1) second) (c : BareUpTo s (second + 1) third) where
-  pub row_three : has_at s first comma ≡ true → has_at s second comma ≡ true → has_at s third cr ≡ true → has_at s (third + 1) lf ≡ true
+module _ {s : List ℕ} {at first second third : ℕ} (a : BareTo s at first comma) (b : BareTo s (first + 1) second comma) (c : BareTo s (second + 1) third cr) where
+  pub row_three : has_at s (third + 1) lf ≡ true
       → Cut (record { count = 3; first = bare_cell at first; second = bare_cell (first + 1) second; third = bare_cell (second + 1) third }) (third + 1 + 1) ≡ cut_row s at
   unfolding pushed
-  row_three a' b' c' l =
-      let within = has_within s first comma a' in
-      let low = a.onward in
-      let one = row_more (row_start s at (omega arith)) (to_comma s at a within (has_same s first comma a')) in
-      let two = row_more one (to_comma s (first + 1) b (has_within s second comma b') (has_same s second comma b')) in
-      sym (row_turn two (to_crlf s (second + 1) c (has_within s (third + 1) lf l) (has_same s third cr c') (has_same s (third + 1) lf l)))
+  row_three l =
+      let within = to_within a in
+      let low = a.field.onward in
+      let one = row_more (row_start s at (omega arith)) (to_comma s at a.field within (has_same s first comma a.ends)) in
+      let two = row_more one (to_comma s (first + 1) b.field (to_within b) (has_same s second comma b.ends)) in
+      sym (row_turn two (to_crlf s (second + 1) c.field (has_within s (third + 1) lf l) (has_same s third cr c.ends) (has_same s (third + 1) lf l)))

@@ -9,6 +9,7 @@ use native.Mathlib.Omega.{arith}
 use borrow.Author.Tests.{eqb-false, ltb-true, ltb-false}
 use lib.ListN.{length, drop, length-drop, length-append}
 use lib.Dec.{eqb, ltb}
+use Rattle.std.specs.Prelude.{Some, None}
 use Rattle.grammar.specs.declared.cut.Cell.{Cell}
 use Rattle.grammar.specs.declared.cut.Cells.{Cells}
 use Rattle.grammar.specs.declared.cut.Mode.{Mode}
@@ -23,7 +24,6 @@ use Rattle.grammar.specs.Grammar.{Field, bare, quoted, field_text, quote, comma,
 use Rattle.grammar.specs.Cut.{empty_at, bare_move, shut_move, move_of, end_of, after_move, cut_field, pushed, no_cells, row_end, row_from, cut_row}
 use Rattle.grammar.specs.Where.{cell_of, CellHolds}
 use Rattle.grammar.specs.Rows.{on_row, read_rows, rows_from, count_from, count_rows}
-use Rattle.cell_meaning.specs.declared.Number.TheVariants.{Is, None}
 use Rattle.cell_meaning.specs.Say.{ProperNumber, content_at, same_bytes, is_word, says_words, number_in, number_at}
 use Rattle.grammar.proofs.Steps.{FieldIn, field_in, cut_within}
 use Rattle.grammar.proofs.Found.{FieldFound, with_crlf, with_sheet}
@@ -234,11 +234,11 @@ words_tell s cells x y z =
     (tell_behind (tell_eq cells.count 3)
     (tell_behind (word_tells s cells.first x) (tell_behind (word_tells s cells.second y) (word_tells s cells.third z))))
 
-number_told : (s : List ℕ) (cell : Cell) (n : ℕ) → (number_at s cell ≡ Is n) ↔ ((cell.doubled ≡ false) × ProperNumber (content_at s cell) n)
+number_told : (s : List ℕ) (cell : Cell) (n : ℕ) → (number_at s cell ≡ Some n) ↔ ((cell.doubled ≡ false) × ProperNumber (content_at s cell) n)
 unfolding number_at
 number_told s cell n = (go cell.doubled refl, λ w. ap (λ (b : Bool). cond b None (number_in (content_at s cell))) w.0 ∙ proper_read (content_at s cell) w.1)
   where
-    go : (b : Bool) → cell.doubled ≡ b → cond b None (number_in (content_at s cell)) ≡ Is n → (cell.doubled ≡ false) × ProperNumber (content_at s cell) n
+    go : (b : Bool) → cell.doubled ≡ b → cond b None (number_in (content_at s cell)) ≡ Some n → (cell.doubled ≡ false) × ProperNumber (content_at s cell) n
     go true q e = no_number e
     go false q e = (q, read_proper (content_at s cell) e)
 

@@ -10,8 +10,7 @@ use lib.Dec.{leb}
 use native.Mathlib.Nat.{zero-add}
 use lib.ListN.{length, drop, replicate, length-replicate}
 use lib.Seq.{length-sets, sets-eq}
-use Rattle.findings.specs.declared.Printed.{Printed}
-use Rattle.findings.specs.declared.Printed.TheVariants.{Text, TooShort}
+use Rattle.std.specs.Prelude.{Result, Ok, Err}
 use Rattle.text.specs.Wrote.{Wrote}
 use Rattle.text.specs.Wrote as wrote
 use Rattle.text.specs.Printed.{fits_in, printed_of, written, Prints}
@@ -21,6 +20,7 @@ use Rattle.text.proofs.Decimal.{decimal_some}
 use Rattle.text.proofs.Rows.{row_some}
 use Rattle.numbers.specs.Telling.{OneOf}
 use Rattle.sheet_answers.specs.Answers.{TextWritten, TextTells, TextAnswers}
+use Rattle.findings.specs.declared.TooShort.{TooShort}
 
 -- a text that is printed is told by its length and stands in front of its list, or is refused
 pub printed_tells : (text out : List ℕ) → TextTells text out (printed_of text out) (written text out)
@@ -45,19 +45,19 @@ printed_tells text out = go (leb (length text) (length out)) refl
           unaltered = λ _. rw q;
         }
 
-pub text_tells : {text out : List ℕ} {told : Printed} {after : List ℕ} → Prints text out told after → TextTells text out told after
+pub text_tells : {text out : List ℕ} {told : Result ℕ TooShort} {after : List ℕ} → Prints text out told after → TextTells text out told after
 text_tells {text} {out} w = rw (w.answer, w.list) (printed_tells text out)
 
 -- a list of zeros, and a text that is no longer: it is printed whole there
 pub blank_long : (n : ℕ) → length {A = ℕ} (replicate n 0) ≡ n
 blank_long n = length-replicate {A = ℕ} n 0
 
-pub in_blank : {most : ℕ} (text : List ℕ) → length text ≤ most → printed_of text (replicate most 0) ≡ Text (length text)
+pub in_blank : {most : ℕ} (text : List ℕ) → length text ≤ most → printed_of text (replicate most 0) ≡ Ok (length text)
 in_blank {most} text h = let l = blank_long most in (printed_tells text (replicate most 0)).a_length (omega arith)
 
-a_text_number : (p : Printed) → OneOf (0 ∷ 13 ∷ []) (printed_no p)
-a_text_number (Text n) = inl refl
-a_text_number TooShort = inr (inl refl)
+a_text_number : (p : Result ℕ TooShort) → OneOf (0 ∷ 13 ∷ []) (printed_no p)
+a_text_number (Ok n) = inl refl
+a_text_number (Err short) = inr (inl refl)
 
 pub written_told : {list : List ℕ} {at : ℕ} {text after : List ℕ} {next : ℕ} → Wrote list at text after next → TextWritten list at text after next
 unfolding wrote.behind
@@ -77,5 +77,6 @@ of_text =
       put_bytes = λ list at bytes after next w. written_told w;
       put_number = λ list at n after next w. (written_told w, decimal_some n);
       put_row = λ list at first numbers after next w. (written_told w, row_some first numbers);
+      print = λ text list told after w. text_tells w;
       printed_number = a_text_number;
     }

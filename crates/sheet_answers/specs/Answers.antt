@@ -1,7 +1,7 @@
 -- Demand 1 of sheets and texts: each field is a public function of the crates `sheet`, `cells`, `reader`, `text`, `number_rows` or
 -- `findings`, and says what follows of the definition that its promise cites. A function that answers no number tells a place or a fact:
 -- the place is there, the fact is told exactly where its field has `Tells` or `↔`.
-use Rattle.std.specs.Prelude.{ℕ, ◌+◌, ◌≤◌, ◌<◌, ◌≡◌, false, List, [], ◌∷◌, ◌++◌, ◌↔◌, length, take, drop}
+use Rattle.std.specs.Prelude.{ℕ, ◌+◌, ◌≤◌, ◌<◌, ◌≡◌, false, List, [], ◌∷◌, ◌++◌, ◌↔◌, length, take, drop, Some, Result, Ok, Err}
 use Rattle.std.specs.Borrow.{Bor}
 use Rattle.numbers.specs.Numbers.{done_no, too_short_no}
 use Rattle.reader.specs.declared.Reader.{Reader}
@@ -11,20 +11,18 @@ use Rattle.grammar.specs.declared.cut.FieldCut.{FieldCut}
 use Rattle.grammar.specs.declared.cut.FieldCut.TheVariants.{Next, Last, Fault}
 use Rattle.grammar.specs.declared.cut.RowCut.{RowCut}
 use Rattle.grammar.specs.declared.cut.RowCut.TheVariants.{Cut, NoRow, Broken}
-use Rattle.grammar.specs.declared.count.RowsCounted.{RowsCounted}
-use Rattle.grammar.specs.declared.count.RowsCounted.TheVariants.{All, UpTo}
-use Rattle.cell_meaning.specs.declared.Number.TheVariants.{Is}
+use Rattle.grammar.specs.declared.count.BrokenSheet.{BrokenSheet}
 use Rattle.grammar.specs.Cut.{cut_field, cut_row}
 use Rattle.grammar.specs.Rows.{count_rows}
 use Rattle.reader.specs.Reader.{reader_at}
 use Rattle.cell_meaning.specs.Say.{ProperNumber, content_at, is_word, says_words, number_at}
-use Rattle.findings.specs.declared.Printed.{Printed}
-use Rattle.findings.specs.declared.Printed.TheVariants.{Text}
 use Rattle.text.specs.Text.{decimal, row_of_numbers}
 use Rattle.text.specs.Wrote.{last_place, Wrote}
+use Rattle.text.specs.Printed.{Prints}
 use Rattle.findings.specs.Told.{printed_no}
 use Rattle.tables.specs.Below.{Tells}
 use Rattle.numbers.specs.Telling.{done, ◌unless◌then◌, NumberBy, OneOf}
+use Rattle.findings.specs.declared.TooShort.{TooShort}
 
 -- ---- crates `sheet`, `cells` and `reader`
 
@@ -50,9 +48,9 @@ RowTold s at (Cut cells next) =
 RowTold s at NoRow = length s ≤ at
 RowTold s at (Broken byte) = Within s at byte
 
-abbrev pub CountTold : List ℕ → RowsCounted → Type 0
-CountTold s (All rows) = rows ≤ length s
-CountTold s (UpTo rows byte) = (rows ≤ length s) × (byte ≤ length s)
+abbrev pub CountTold : List ℕ → Result ℕ BrokenSheet → Type 0
+CountTold s (Ok rows) = rows ≤ length s
+CountTold s (Err broken) = (broken.rows ≤ length s) × (broken.byte ≤ length s)
 
 -- a cell has a word's bytes, and no doubled quote
 abbrev pub HasWord : List ℕ → Cell → List ℕ → Type 0
@@ -76,9 +74,9 @@ pub record SheetAnswers : Type 0 where
   pub is_word_lem : (s : List ℕ) (cell : Cell) (word : List ℕ) → Tells (is_word s cell word) (HasWord s cell word)
   pub says_words_lem : (s : List ℕ) (cells : Cells) (x y z : List ℕ) → Tells (says_words s cells x y z) (HasWords s cells x y z)
   -- "A number is 1 to 3 digits with no needless leading zero.": a cell is told as one exactly when it is one
-  pub number_of : (s : List ℕ) (cell : Cell) (n : ℕ) → (number_at s cell ≡ Is n) ↔ ((cell.doubled ≡ false) × ProperNumber (content_at s cell) n)
+  pub number_of : (s : List ℕ) (cell : Cell) (n : ℕ) → (number_at s cell ≡ Some n) ↔ ((cell.doubled ≡ false) × ProperNumber (content_at s cell) n)
 
--- ---- crates `text` and `number_rows`, and `Printed::number` of `findings`
+-- ---- crates `text` and `number_rows`, and the number of a text that is printed
 
 -- a text is written at a place of a list, which stays as long as it was: within the list it stands there, the rest is unaltered and
 -- the place behind it is told; past the list's end nothing is written
@@ -89,9 +87,9 @@ pub record TextWritten (list : List ℕ) (at : ℕ) (text after : List ℕ) (nex
   pub behind : at + length text ≤ last_place → next ≡ at + length text
 
 -- 13: "list lent .. is shorter"; else the text stands in front, its length told, and the rest is unaltered
-pub record TextTells (text out : List ℕ) (told : Printed) (after : List ℕ) : Type 0 where
+pub record TextTells (text out : List ℕ) (told : Result ℕ TooShort) (after : List ℕ) : Type 0 where
   pub number : NumberBy (too_short_no unless length text ≤ length out then done) (printed_no told)
-  pub a_length : length text ≤ length out → told ≡ Text (length text)
+  pub a_length : length text ≤ length out → told ≡ Ok (length text)
   pub in_front : length text ≤ length out → after ≡ text ++ drop (length text) out
   pub unaltered : length out < length text → after ≡ out
 
@@ -104,4 +102,6 @@ pub record TextAnswers : Type 0 where
   -- a row has a digit and CRLF at least
   pub put_row : (list : List ℕ) (at first : ℕ) (more after : List ℕ) (next : ℕ) → Wrote list at (row_of_numbers first more) after next
       → TextWritten list at (row_of_numbers first more) after next × (3 ≤ length (row_of_numbers first more))
-  pub printed_number : (p : Printed) → OneOf (done_no ∷ too_short_no ∷ []) (printed_no p)
+  -- whatever text is put: it is told by its length and stands in front, or is refused
+  pub print : (text list : List ℕ) (told : Result ℕ TooShort) (after : List ℕ) → Prints text list told after → TextTells text list told after
+  pub printed_number : (p : Result ℕ TooShort) → OneOf (done_no ∷ too_short_no ∷ []) (printed_no p)

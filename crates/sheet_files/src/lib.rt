@@ -21,7 +21,7 @@ const NO_ERROR: i32 = 0;
 const NO_TEXT: i32 = 84;
 
 // Reads until a list is full, the file ends or a read fails. Tells how many bytes lie at the start of the list, and the error of the read
-// that failed.
+// that failed. A `while`, since a read tells itself how much it read.
 fn read_full(file: &mut impl Read, list: &mut [u8]) -> (usize, Option<Error>)
     ensures { IsPrefixLen result.0 list.new }
 {

@@ -5,160 +5,112 @@
 #![tactic(auto)]
 
 ghost use Rattle.std.specs.Prelude.{◌≡◌};
+ghost use Rattle.grammar.specs.Rows.{rows_from};
+ghost use Rattle.verdict.specs.Verdict.{said_of};
+ghost use Rattle.site_lines.specs.Draft.{blank_draft};
+ghost use Rattle.site_lines.specs.Lent.{fault_of};
 ghost use Rattle.site_lines.specs.Line.{site_header_at};
-ghost use Rattle.site_sheet.specs.Site.{accepted_site, refused_site, judged_by10, judged_from8, judged_draft, settled, site_of};
+ghost use Rattle.site_lines.specs.Taking.{verdict_of, lines_in, read_lines};
+ghost use Rattle.site_sheet.specs.Site.{site_told, judged_draft, settled, site_of};
 
-use blank_lists::blank_rights;
 use cells::say::says_words;
-use findings::{Found, RightFound};
 use grammar::cut::{Cells, RowCut};
 use reader::row_at;
 use record::record::Record;
+use rules::Tables;
 use sheet::LIMIT;
-use site_lines::{Draft, Fault, Reading};
-use site_sheet::SiteRead;
+use site_lines::{Draft, RowFault, Stop};
 use site_tables::read_rows;
-use tables::{MOST_DOORS, MOST_LOCATIONS};
-use verdict::Verdict;
+use verdict::SiteRefused;
 
 // Whether a row with these cells is the header.
+#[tactic(auto, unfolding(site_lines::specs::Line::site_header_at))]
 fn is_header(s: &[u8], cells: Cells) -> bool
     ensures { result ≡ site_header_at s.now cells }
 {
     says_words(s, cells, b"kind", b"a", b"b")
 }
 
-// A refused sheet gives no new record.
-fn refused(verdict: Verdict) -> SiteRead
-    ensures { result ≡ refused_site verdict }
+// Rules 6 to 10 over the whole sheet, each finished before the next, and then the record of these tables.
+#[tactic(auto, unfolding(site_sheet::specs::Site::judged_draft))]
+fn judged(draft: Draft) -> Result<Record, SiteRefused>
+    ensures { result ≡ site_told (judged_draft draft) }
 {
-    SiteRead {
-        verdict,
-        record: Record::fresh(
-            0,
-            0,
-            0,
-            [0; MOST_DOORS],
-            [0; MOST_DOORS],
-            [0; MOST_LOCATIONS],
-            blank_rights(),
-        ),
+    if let Some(location) = rules::first_no_exit(draft.locations, &draft.given) {
+        return Err(SiteRefused::NoExit(location));
     }
-}
-
-// The fresh record of these tables.
-fn accepted(draft: Draft) -> SiteRead
-    ensures { result ≡ accepted_site draft }
-{
-    let origin = draft.origin;
-    let destination = draft.destination;
-    let exit = draft.exit;
-    let right = draft.right;
-    SiteRead {
-        verdict: Verdict::Accepted,
-        record: Record::fresh(
-            draft.people,
-            draft.locations,
-            draft.doors,
-            origin,
-            destination,
-            exit,
-            right,
-        ),
+    let site = Tables {
+        people: draft.people,
+        locations: draft.locations,
+        doors: draft.doors,
+        origin: &draft.origin,
+        destination: &draft.destination,
+        exit: &draft.exit,
+        right: &draft.right,
+    };
+    if let Some(location) = site.first_stray() {
+        return Err(SiteRefused::Stray(location));
     }
-}
-
-// Rule 10 over the whole sheet, and then the record.
-fn judged_by_10(draft: Draft) -> SiteRead
-    ensures { result ≡ judged_by10 draft }
-{
-    if let Found::At(p) = rules::first_shut_out(
+    if let Some(location) = site.first_no_door() {
+        return Err(SiteRefused::NoDoor(location));
+    }
+    if let Some((person, location)) = site.first_no_right() {
+        return Err(SiteRefused::NoRight(person, location));
+    }
+    if let Some(person) = site.first_shut_out() {
+        return Err(SiteRefused::ShutOut(person));
+    }
+    Ok(Record::fresh(
         draft.people,
+        draft.locations,
         draft.doors,
-        &draft.origin,
-        &draft.destination,
-        &draft.right,
-    ) {
-        return refused(Verdict::ShutOut(p));
-    }
-    accepted(draft)
+        draft.origin,
+        draft.destination,
+        draft.exit,
+        draft.right,
+    ))
 }
 
-// Rules 8 and 9 over the whole sheet, and then the one behind them.
-fn judged_from_8(draft: Draft) -> SiteRead
-    ensures { result ≡ judged_from8 draft }
+// The refusal of a sheet whose rows stop there. A `match` over the faults, since only some of them tell the row.
+fn refused_at(stop: Stop) -> SiteRefused
+    ensures { said_of result ≡ verdict_of (fault_of stop.fault) stop.row }
 {
-    let locations = draft.locations;
-    if let Found::At(l) = rules::first_no_door(
-        locations,
-        draft.doors,
-        &draft.origin,
-        &draft.destination,
-        &draft.exit,
-    ) {
-        return refused(Verdict::NoDoor(l));
+    match stop.fault {
+        RowFault::Form => SiteRefused::BadRow(stop.row),
+        RowFault::NoSite => SiteRefused::NoSite,
+        RowFault::Range => SiteRefused::OutOfRange(stop.row),
+        RowFault::Twice => SiteRefused::Twice(stop.row),
     }
-    if let RightFound::At { person, location } = rules::first_no_right(
-        draft.people,
-        locations,
-        &draft.exit,
-        &draft.right,
-    ) {
-        return refused(Verdict::NoRight(person, location));
-    }
-    judged_by_10(draft)
 }
 
-// Rules 6 to 10 over the whole sheet, each finished before the next.
-fn judged(draft: Draft) -> SiteRead
-    ensures { result ≡ judged_draft draft }
+// The answer to a sheet whose first data row begins at this byte.
+#[tactic(auto, unfolding(site_sheet::specs::Site::settled))]
+fn settled(s: &[u8], from: usize) -> Result<Record, SiteRefused>
+    ensures { result ≡ site_told (settled (read_lines blank_draft 1 (lines_in s.now (rows_from s.now from)))) }
 {
-    let locations = draft.locations;
-    if let Found::At(l) = rules::first_no_exit(locations, &draft.given) {
-        return refused(Verdict::NoExit(l));
+    let draft = read_rows(s, from).map_err(refused_at)?;
+    if draft.locations == 0 {
+        return Err(SiteRefused::NoSite);
     }
-    if let Found::At(l) = rules::first_stray(locations, &draft.exit) {
-        return refused(Verdict::Stray(l));
-    }
-    judged_from_8(draft)
-}
-
-// The answer to a sheet of which this was read.
-fn settled(reading: Reading) -> SiteRead
-    ensures { result ≡ settled reading }
-{
-    let fault = reading.fault;
-    let draft = reading.draft;
-    let row = reading.row;
-    match fault {
-        Fault::Sound => {
-            if draft.locations == 0 {
-                return refused(Verdict::NoSite);
-            }
-            judged(draft)
-        }
-        Fault::Form => refused(Verdict::BadRow(row)),
-        Fault::NoSite => refused(Verdict::NoSite),
-        Fault::Range => refused(Verdict::OutOfRange(row)),
-        Fault::Twice => refused(Verdict::Twice(row)),
-    }
+    judged(draft)
 }
 
 // The answer to a site sheet: the fresh record that it describes, or what is wrong with it.
-pub fn read_site(s: &[u8]) -> SiteRead
-    ensures { result ≡ site_of s.now }
+#[tactic(auto, unfolding(site_sheet::specs::Site::site_at, site_sheet::specs::Site::after_header))]
+pub fn read_site(s: &[u8]) -> Result<Record, SiteRefused>
+    ensures { result ≡ site_told (site_of s.now) }
 {
     if LIMIT < s.len() {
-        return refused(Verdict::TooLong);
+        return Err(SiteRefused::TooLong);
     }
     match row_at(s, 0) {
         RowCut::Cut(cells, next) => {
             if !is_header(s, cells) {
-                return refused(Verdict::BadRow(0));
+                return Err(SiteRefused::BadRow(0));
             }
-            settled(read_rows(s, next))
+            settled(s, next)
         }
-        RowCut::NoRow => refused(Verdict::BadRow(0)),
-        RowCut::Broken(_) => refused(Verdict::BadRow(0)),
+        RowCut::NoRow => Err(SiteRefused::BadRow(0)),
+        RowCut::Broken(_) => Err(SiteRefused::BadRow(0)),
     }
 }

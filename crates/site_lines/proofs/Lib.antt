@@ -9,6 +9,7 @@
 --     Rows       which line a row is
 --     Text       which lines a text says
 --     Outcomes   the lines read into the tables, up to the first that is wrong
+--     Told       what the code tells of the rows that were read
 pub mod Fits
 pub mod Bounds
 pub mod Loop
@@ -19,4 +20,5 @@ pub mod Outcome
 pub mod Rows
 pub mod Text
 pub mod Outcomes
+pub mod Told
 pub mod Theorems

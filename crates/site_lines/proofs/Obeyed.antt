@@ -10,12 +10,11 @@ use mathlib.Core.List.{List, [], ◌∷◌}
 use lib.ListN.{length, get_or}
 use lib.Dec.{ltb, eqb}
 use borrow.Author.Tests.{eq-eqb, eqb-true, lt-ltb}
+use Rattle.std.specs.Prelude.{Option}
 use Rattle.tables.specs.Tables.{or_else, and_also, may_be, most_people, most_locations}
 use Rattle.tables.specs.Below.{Smallest, Answers, AnswersPair}
 use Rattle.tables.specs.Way as way
 use Rattle.tables.specs.Rules.{DoorFrom, FirstLocation, ExitDoor, ExitRight, Lawful}
-use Rattle.findings.specs.declared.Found.{Found}
-use Rattle.findings.specs.declared.RightFound.{RightFound}
 use Rattle.tables.specs.Tests.{first_no_exit, first_stray, first_no_door, first_no_right, first_shut_out}
 use Rattle.tables.proofs.Laws.{and_right, and_both, or_left, or_right, not_so, clash, may_be_outside}
 use Rattle.tables.proofs.Answers.{rule_6, rule_7, rule_8, rule_9, rule_10}
@@ -191,7 +190,7 @@ module _ {F G : ℕ → Type 0} {n m : ℕ} (e : n ≡ m) (same : (k : ℕ) → 
       let y : k < n = omega arith in
       record { exists = y; offends = λ f. s.offends ((same k y).0 f); before = λ j b. (same j (omega arith)).1 (s.before j b) }
 
-  answers_as : {a : Found} → Answers a F n → Answers a G m
+  answers_as : {a : Option ℕ} → Answers a F n → Answers a G m
   answers_as s = record {
     none_yes = λ q k b. let c : k < n = omega arith in (same k c).0 (s.none_yes q k c);
     none_back = λ g. s.none_back (λ k b. (same k b).1 (g k (omega arith)));
@@ -200,7 +199,7 @@ module _ {F G : ℕ → Type 0} {n m : ℕ} (e : n ≡ m) (same : (k : ℕ) → 
   }
 
 module _ {F G : ℕ → ℕ → Type 0} {people persons n m : ℕ} (o : people ≡ persons) (e : n ≡ m) (same : (p l : ℕ) → l < n → F p l ↔ G p l) where
-  pairs_as : {a : RightFound} → AnswersPair a F people n → AnswersPair a G persons m
+  pairs_as : {a : Option (ℕ × ℕ)} → AnswersPair a F people n → AnswersPair a G persons m
   pairs_as s = record {
     none_yes = λ q p b l c. (same p l (omega arith)).0 (s.none_yes q p (omega arith) l (omega arith));
     none_back = λ g. s.none_back (λ p b l c. (same p l c).1 (g p (omega arith) l (omega arith)));

@@ -14,8 +14,8 @@ use Rattle.tables.proofs.Cases.{either}
 use Rattle.site_lines.specs.declared.SiteLine.{SiteLine}
 use Rattle.site_lines.specs.declared.SiteLine.TheVariants.{Site, Door, Exit, Right, Bad}
 use Rattle.site_lines.specs.declared.Draft.{Draft}
-use Rattle.site_lines.specs.declared.Fault.{Fault}
-use Rattle.site_lines.specs.declared.Fault.TheVariants as fault
+use Rattle.site_lines.specs.Fault.{Fault}
+use Rattle.site_lines.specs.Fault as fault
 use Rattle.site_lines.specs.Draft.{Taken, took, not_taken, site_row_fits, door_row_fits, exit_row_fits, right_row_fits, with_site, with_door, with_exit, with_right, take_site, take_door, take_exit, take_right, take_line}
 use Rattle.site_lines.specs.Taking.{sound_fault}
 use Rattle.site_lines.specs.Says.{has_exit, has_right, LineInRange, site_range, door_range, exit_range, right_range, Again, second_site, second_exit, same_right, NotFirst, door_first, exit_first, right_first, Fine, Wrong, of_form, no_site, out_of_range, said_again}

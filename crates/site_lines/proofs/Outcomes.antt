@@ -7,9 +7,9 @@ use mathlib.Core.Bool.{true, false}
 use mathlib.Core.List.{List, [], ◌∷◌, ◌++◌, append_assoc, append-nil}
 use Rattle.site_lines.specs.declared.SiteLine.{SiteLine}
 use Rattle.site_lines.specs.declared.Draft.{Draft}
-use Rattle.site_lines.specs.declared.Fault.{Fault}
-use Rattle.site_lines.specs.declared.Fault.TheVariants as fault
-use Rattle.site_lines.specs.declared.Reading.{Reading}
+use Rattle.site_lines.specs.Fault.{Fault}
+use Rattle.site_lines.specs.Fault as fault
+use Rattle.site_lines.specs.Draft.{Reading}
 use Rattle.site_lines.specs.Draft.{take_line}
 use Rattle.site_lines.specs.Taking.{sound_fault, read_lines}
 use Rattle.site_lines.specs.Says.{Fine}

@@ -8,10 +8,9 @@ use mathlib.Core.List.{List, []}
 use lib.ListN.{length, get_or}
 use lib.Dec.{eqb}
 use borrow.Author.Tests.{eq-eqb, eqb-true, eqb-false}
+use Rattle.std.specs.Prelude.{Option, Some, None}
 use Rattle.tables.proofs.Cases.{either}
 use Rattle.grammar.specs.declared.cut.Cells.{Cells}
-use Rattle.cell_meaning.specs.declared.Number.{Number}
-use Rattle.cell_meaning.specs.declared.Number.TheVariants as number
 use Rattle.grammar.specs.Grammar.{Row, content, fields}
 use Rattle.grammar.specs.Where.{holds_quote, field_of, RowHolds}
 use Rattle.cell_meaning.specs.Say.{ProperNumber, same_bytes, is_word, says_words, number_in, number_at, place_in}
@@ -100,14 +99,14 @@ module _ (r : Row) where
       unknown other exit_kind e = other 2 (omega arith) e
       unknown other right_kind e = other 3 (omega arith) e
 
-  no_number : {c : List ℕ} {a : ℕ} → number_in c ≡ number.None → ProperNumber c a → ⊥
+  no_number : {c : List ℕ} {a : ℕ} → number_in c ≡ None → ProperNumber c a → ⊥
   no_number {c} {a} e p = let q = proper_read c p in let z : ◌≡◌ {A = ℕ} 0 1 = cc in omega arith
 
-  by_numbers : (x y : Number) → number_in c₁ ≡ x → number_in c₂ ≡ y → length (fields r) ≡ 3 → SaysSo r (site_line_of (word_in c₀) x y)
+  by_numbers : (x y : Option ℕ) → number_in c₁ ≡ x → number_in c₂ ≡ y → length (fields r) ≡ 3 → SaysSo r (site_line_of (word_in c₀) x y)
   unfolding c₁ c₂
-  by_numbers (number.Is a) (number.Is b) e f n = by_word a b n (read_proper c₁ e) (read_proper c₂ f)
-  by_numbers (number.Is a) number.None e f n = bad_form (λ w i j k t. no_number f t.third)
-  by_numbers number.None y e f n = bad_form (λ w i j k t. no_number e t.second)
+  by_numbers (Some a) (Some b) e f n = by_word a b n (read_proper c₁ e) (read_proper c₂ f)
+  by_numbers (Some a) None e f n = bad_form (λ w i j k t. no_number f t.third)
+  by_numbers None y e f n = bad_form (λ w i j k t. no_number e t.second)
 
   pub says_from : SaysSo r (line_from r)
   unfolding line_from c₀ c₁ c₂

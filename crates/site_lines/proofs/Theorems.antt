@@ -11,7 +11,7 @@ use Rattle.grammar.specs.Grammar.{Row}
 use Rattle.grammar.specs.Where.{RowHolds}
 use Rattle.grammar.specs.Rows.{rows_from}
 use Rattle.site_lines.specs.declared.SiteLine.{SiteLine}
-use Rattle.site_lines.specs.declared.Reading.{Reading}
+use Rattle.site_lines.specs.Draft.{Reading}
 use Rattle.site_lines.specs.Line.{site_line_at}
 use Rattle.site_lines.specs.Draft.{blank_draft}
 use Rattle.site_lines.specs.Taking.{lines_in, read_lines}

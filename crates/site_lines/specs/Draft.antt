@@ -4,10 +4,20 @@ use Rattle.tables.specs.Zero.{zeros}
 use Rattle.tables.specs.Tables.{Plan, plan, and_also, most_people, most_locations, most_doors}
 use Rattle.site_lines.specs.declared.SiteLine.{SiteLine}
 use Rattle.site_lines.specs.declared.SiteLine.TheVariants.{Site, Door, Exit, Right, Bad}
-use Rattle.site_lines.specs.declared.Counts.{Counts}
 use Rattle.site_lines.specs.declared.Draft.{Draft}
-use Rattle.site_lines.specs.declared.Fault.{Fault}
-use Rattle.site_lines.specs.declared.Fault.TheVariants.{Sound, Form, NoSite, Range, Twice}
+use Rattle.site_lines.specs.Fault.{Fault, Sound, Form, NoSite, Range, Twice}
+
+-- the counts of the tables
+pub record Counts : Type 0 where
+  pub people : ℕ
+  pub locations : ℕ
+  pub doors : ℕ
+
+-- how far the rows of a sheet were read: the tables, what is wrong with the last row, and its number
+pub record Reading : Type 0 where
+  pub draft : Draft
+  pub fault : Fault
+  pub row : ℕ
 
 -- the tables with a row in them, or as they were where something is wrong with the row
 pub record Taken : Type 0 where

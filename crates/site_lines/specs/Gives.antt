@@ -5,11 +5,10 @@ use Rattle.tables.specs.Below.{Smallest, SmallestPair}
 use Rattle.grammar.specs.Grammar.{Row, RowAt}
 use Rattle.site_lines.specs.declared.SiteLine.{SiteLine}
 use Rattle.site_lines.specs.declared.SiteLine.TheVariants.{Door, Exit, Right}
-use Rattle.site_lines.specs.declared.Fault.{Fault}
-use Rattle.site_lines.specs.declared.Fault.TheVariants.{Sound}
-use Rattle.site_lines.specs.declared.Reading.{Reading}
-use Rattle.verdict.specs.declared.Verdict.{Verdict}
-use Rattle.verdict.specs.declared.Verdict.TheVariants.{Accepted, TooLong, BadRow, NoSite, NoExit, Stray, NoDoor, NoRight, ShutOut}
+use Rattle.site_lines.specs.Fault.{Fault, Sound}
+use Rattle.site_lines.specs.Draft.{Reading}
+use Rattle.verdict.specs.Verdict.{Verdict}
+use Rattle.verdict.specs.Verdict.{Accepted, TooLong, BadRow, NoSite, NoExit, Stray, NoDoor, NoRight, ShutOut}
 use Rattle.site_lines.specs.Taking.{verdict_of}
 use Rattle.site_lines.specs.Says.{SiteHeaderRow, TextSaysLines, Among, HasExit, people_in, locations_in, Holds, Fine, Wrong}
 

@@ -1,38 +1,35 @@
--- The tables of a site in pieces: the counts, and the five lists that are lent to whatever takes a row.
-use Rattle.std.specs.Prelude.{ℕ, Bool, List}
-use Rattle.site_lines.specs.declared.Counts.{Counts}
-use Rattle.site_lines.specs.declared.RowTaken.{RowTaken}
+-- What becomes of the tables that are lent to whatever takes a row, and of the rows of a sheet, as the code tells it.
+use Rattle.std.specs.Prelude.{ℕ, Result, Ok, Err}
 use Rattle.site_lines.specs.declared.Draft.{Draft}
-use Rattle.site_lines.specs.declared.Fault.{Fault}
-use Rattle.site_lines.specs.declared.Reading.{Reading}
+use Rattle.site_lines.specs.declared.RowFault as told
+use Rattle.site_lines.specs.declared.RowFault.TheVariants as told_fault
 use Rattle.site_lines.specs.declared.Stop.{Stop}
-use Rattle.site_lines.specs.Draft.{Taken}
+use Rattle.site_lines.specs.Fault.{Fault, Sound, Form, NoSite, Range, Twice}
+use Rattle.site_lines.specs.Draft.{Taken, took, not_taken, Reading}
 
-abbrev pub no_counts : Counts
-no_counts = record { people = 0; locations = 0; doors = 0 }
+-- what is wrong with a row with which something is
+abbrev pub fault_of : told.RowFault → Fault
+fault_of told_fault.Form = Form
+fault_of told_fault.NoSite = NoSite
+fault_of told_fault.Range = Range
+fault_of told_fault.Twice = Twice
 
-abbrev pub row_taken : Counts → Fault → RowTaken
-row_taken c fault = record { counts = c; fault = fault }
+-- what taking a row gave, with the tables as they are then
+abbrev pub taken_with : Result (Unit {0}) told.RowFault → Draft → Taken
+taken_with (Ok done) d = took d
+taken_with (Err fault) d = not_taken d (fault_of fault)
 
-abbrev pub stop : Counts → Fault → ℕ → Stop
-stop c fault n = record { counts = c; fault = fault; row = n }
+abbrev pub stop : told.RowFault → ℕ → Stop
+stop fault n = record { fault = fault; row = n }
 
-abbrev pub draft_with : Counts → List ℕ → List ℕ → List ℕ → List Bool → List Bool → Draft
-draft_with c origin destination exit given right = record {
-  people = c.people;
-  locations = c.locations;
-  doors = c.doors;
-  origin = origin;
-  destination = destination;
-  exit = exit;
-  given = given;
-  right = right;
-}
+-- where rows stop: what is told of them all, or what is wrong with the last and its number
+abbrev pub stopped_told : {A : Type 0} → A → Fault → ℕ → Result A Stop
+stopped_told told Sound n = Ok told
+stopped_told told Form n = Err (stop told_fault.Form n)
+stopped_told told NoSite n = Err (stop told_fault.NoSite n)
+stopped_told told Range n = Err (stop told_fault.Range n)
+stopped_told told Twice n = Err (stop told_fault.Twice n)
 
--- what taking a row gave, with the lists as they are then
-abbrev pub taken_with : RowTaken → List ℕ → List ℕ → List ℕ → List Bool → List Bool → Taken
-taken_with r origin destination exit given right = record { draft = draft_with r.counts origin destination exit given right; fault = r.fault }
-
--- what reading the rows gave, with the lists as they are then
-abbrev pub stopped_at : Stop → List ℕ → List ℕ → List ℕ → List Bool → List Bool → Reading
-stopped_at r origin destination exit given right = record { draft = draft_with r.counts origin destination exit given right; fault = r.fault; row = r.row }
+-- The tables of the rows, or where they stopped.
+abbrev pub reading_told : Reading → Result Draft Stop
+reading_told r = stopped_told r.draft r.fault r.row

@@ -1,10 +1,8 @@
 -- What a row of a site sheet says. 01, "Site sheet".
-use Rattle.std.specs.Prelude.{ℕ, Bool, cond, List, [], ◌∷◌, eqb}
+use Rattle.std.specs.Prelude.{ℕ, Bool, cond, List, [], ◌∷◌, eqb, Option, Some, None}
 use Rattle.cell_meaning.specs.Say.{says_words, number_at, named_from}
 use Rattle.grammar.specs.declared.cut.Cell.{Cell}
 use Rattle.grammar.specs.declared.cut.Cells.{Cells}
-use Rattle.cell_meaning.specs.declared.Number.{Number}
-use Rattle.cell_meaning.specs.declared.Number.TheVariants as number
 use Rattle.site_lines.specs.declared.Word.{Word}
 use Rattle.site_lines.specs.declared.Word.TheVariants as word
 use Rattle.site_lines.specs.declared.SiteLine.{SiteLine}
@@ -51,10 +49,10 @@ site_line_with word.Exit a b = Exit a b
 site_line_with word.Right a b = Right a b
 site_line_with word.Unknown a b = Bad
 
-abbrev pub site_line_of : Word → Number → Number → SiteLine
-site_line_of w (number.Is a) (number.Is b) = site_line_with w a b
-site_line_of w (number.Is a) number.None = Bad
-site_line_of w number.None b = Bad
+abbrev pub site_line_of : Word → Option ℕ → Option ℕ → SiteLine
+site_line_of w (Some a) (Some b) = site_line_with w a b
+site_line_of w (Some a) None = Bad
+site_line_of w None b = Bad
 
 -- "Every row has three fields", a word and two numbers
 unfoldable pub site_line_at : List ℕ → Cells → SiteLine

@@ -7,8 +7,7 @@ use Rattle.cell_meaning.specs.Say.{ProperNumber}
 use Rattle.site_lines.specs.declared.SiteLine.{SiteLine}
 use Rattle.site_lines.specs.declared.SiteLine.TheVariants.{Site, Door, Exit, Right, Bad}
 use Rattle.site_lines.specs.declared.Draft.{Draft}
-use Rattle.site_lines.specs.declared.Fault.{Fault}
-use Rattle.site_lines.specs.declared.Fault.TheVariants.{Form, NoSite, Range, Twice}
+use Rattle.site_lines.specs.Fault.{Fault, Form, NoSite, Range, Twice}
 use Rattle.site_lines.specs.Line.{site_word, door_word, exit_word, right_word, kind_head, a_head, b_head}
 
 -- the contents of a row's fields, whether they are quoted or not

@@ -2,14 +2,14 @@
 -- "Numbers given back".
 use Rattle.std.specs.Prelude.{ℕ, ◌+◌, Bool, true, false, cond, List, [], ◌∷◌}
 use Rattle.grammar.specs.Rows.{Rows, no_more, broken, row}
-use Rattle.verdict.specs.declared.Verdict.{Verdict}
-use Rattle.verdict.specs.declared.Verdict.TheVariants.{Accepted, BadRow, OutOfRange, Twice, NoSite}
+use Rattle.verdict.specs.Verdict.{Verdict}
+use Rattle.verdict.specs.Verdict.{Accepted, BadRow, OutOfRange, Twice, NoSite}
 use Rattle.site_lines.specs.declared.SiteLine.{SiteLine}
 use Rattle.site_lines.specs.declared.SiteLine.TheVariants.{Bad}
 use Rattle.site_lines.specs.declared.Draft.{Draft}
-use Rattle.site_lines.specs.declared.Fault.{Fault}
-use Rattle.site_lines.specs.declared.Fault.TheVariants as fault
-use Rattle.site_lines.specs.declared.Reading.{Reading}
+use Rattle.site_lines.specs.Fault.{Fault}
+use Rattle.site_lines.specs.Fault as fault
+use Rattle.site_lines.specs.Draft.{Reading}
 use Rattle.site_lines.specs.Line.{site_line_at}
 use Rattle.site_lines.specs.Draft.{Taken, take_line}
 

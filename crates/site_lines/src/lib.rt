@@ -6,7 +6,7 @@
 use tables::{MOST_DOORS, MOST_LOCATIONS, MOST_RIGHTS};
 
 // The first field of a row.
-#[derive(Clone, Copy)]
+#[derive(Clone, Copy, PartialEq, Eq)]
 pub enum Word {
     // `site`
     Site,
@@ -16,12 +16,12 @@ pub enum Word {
     Exit,
     // `right`
     Right,
-    // none of these
+    // none of these; no `Option`, since `word_named` gives it behind all words
     Unknown,
 }
 
 // A row, or that it is of bad form.
-#[derive(Clone, Copy)]
+#[derive(Clone, Copy, PartialEq, Eq)]
 pub enum SiteLine {
     // so many people and so many locations
     Site(usize, usize),
@@ -31,20 +31,14 @@ pub enum SiteLine {
     Exit(usize, usize),
     // a person, and a location where they may be
     Right(usize, usize),
-    // it is of bad form
+    // it is of bad form; no `Option`, since `TextSaysLines` has it among the lines of a sheet
     Bad,
 }
 
-// The counts. No locations as long as the `site` row hasn't come.
-#[derive(Clone, Copy)]
-pub struct Counts {
-    pub people: usize,
-    pub locations: usize,
-    pub doors: usize,
-}
-
-// The counts, each door's origin and destination, each location's exit with a mark where one has been given, and the
-// rights, MOST_LOCATIONS to a person.
+// The tables of a site while its sheet is being read: the counts, with no locations as long as the `site` row hasn't come, each
+// door's origin and destination, each location's exit with a mark where one has been given, and the rights, MOST_LOCATIONS to a
+// person. Its bounds stand in clauses of crate `site_tables` and in no field here: the definitions of specs/Draft.antt make this struct
+// anew row by row, and each would have to carry the proof.
 #[derive(Drop)]
 pub struct Draft {
     pub people: usize,
@@ -58,10 +52,8 @@ pub struct Draft {
 }
 
 // What is wrong with a row.
-#[derive(Clone, Copy)]
-pub enum Fault {
-    // nothing
-    Sound,
+#[derive(Clone, Copy, PartialEq, Eq)]
+pub enum RowFault {
     // 2: bad form
     Form,
     // 5: not the `site` row that has to come first
@@ -72,25 +64,9 @@ pub enum Fault {
     Twice,
 }
 
-// The counts after a row, and what is wrong with it.
-#[derive(Clone, Copy)]
-pub struct RowTaken {
-    pub counts: Counts,
-    pub fault: Fault,
-}
-
-// Where the rows of a sheet stopped: the counts then, what is wrong with the last row, and its number.
-#[derive(Clone, Copy)]
+// Where the rows of a sheet stopped: what is wrong with the last row, and its number, which is there for each fault.
+#[derive(Clone, Copy, PartialEq, Eq)]
 pub struct Stop {
-    pub counts: Counts,
-    pub fault: Fault,
-    pub row: usize,
-}
-
-// How far the rows of a sheet were read: the tables, what is wrong with the last row, and its number.
-#[derive(Drop)]
-pub struct Reading {
-    pub draft: Draft,
-    pub fault: Fault,
+    pub fault: RowFault,
     pub row: usize,
 }

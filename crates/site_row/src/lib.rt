@@ -5,12 +5,12 @@
 ghost use Rattle.std.specs.Prelude.{◌≡◌};
 ghost use Rattle.site_lines.specs.Line.{word_of, site_line_at};
 
-use cell_meaning::Number;
 use cells::say::{is_word, number_of};
 use grammar::cut::{Cell, Cells};
 use site_lines::{SiteLine, Word};
 
 // The word that a field is.
+#[tactic(auto, using(cell_meaning::proofs::Naming::name_here, cell_meaning::proofs::Naming::name_on, cell_meaning::proofs::Naming::name_none), unfolding(site_lines::specs::Line::word_named))]
 fn word_of(s: &[u8], cell: Cell) -> Word
     ensures { result ≡ word_of s.now cell }
 {
@@ -29,23 +29,21 @@ fn word_of(s: &[u8], cell: Cell) -> Word
     Word::Unknown
 }
 
-// What a row with these cells says.
+// What a row with these cells says. A `match` at its end, since `site_line_at` says the words one by one.
+#[tactic(auto, unfolding(site_lines::specs::Line::site_line_at))]
 pub fn site_line_of(s: &[u8], cells: Cells) -> SiteLine
     ensures { result ≡ site_line_at s.now cells }
 {
     if cells.count != 3 {
         return SiteLine::Bad;
     }
-    let first = cells.first;
-    let second = cells.second;
-    let third = cells.third;
-    let Number::Is(a) = number_of(s, second) else {
+    let Some(a) = number_of(s, cells.second) else {
         return SiteLine::Bad;
     };
-    let Number::Is(b) = number_of(s, third) else {
+    let Some(b) = number_of(s, cells.third) else {
         return SiteLine::Bad;
     };
-    match word_of(s, first) {
+    match word_of(s, cells.first) {
         Word::Site => SiteLine::Site(a, b),
         Word::Door => SiteLine::Door(a, b),
         Word::Exit => SiteLine::Exit(a, b),

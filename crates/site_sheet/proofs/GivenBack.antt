@@ -8,10 +8,7 @@ use mathlib.Core.List.{List, []}
 use lib.ListN.{length}
 use lib.Dec.{ltb, eqb}
 use borrow.Author.Tests.{ltb-true, ltb-false, eqb-true, eqb-false}
-use Rattle.findings.specs.declared.Found.{Found}
-use Rattle.findings.specs.declared.Found.TheVariants as found
-use Rattle.findings.specs.declared.RightFound.{RightFound}
-use Rattle.findings.specs.declared.RightFound.TheVariants as pair
+use Rattle.std.specs.Prelude.{Option, Some, None}
 use Rattle.tables.specs.Tests.{first_no_exit, first_stray, first_no_door, first_no_right, first_shut_out}
 use Rattle.tables.proofs.Laws.{clash}
 use Rattle.tables.proofs.Cases.{either}
@@ -23,9 +20,9 @@ use Rattle.grammar.proofs.Unique.{row_unique, no_row_at}
 use Rattle.grammar.proofs.Exact.{cut_is_row, no_row_end, broken_none}
 use Rattle.site_lines.specs.declared.SiteLine.{SiteLine}
 use Rattle.site_lines.specs.declared.Draft.{Draft}
-use Rattle.verdict.specs.declared.Verdict.{Verdict}
-use Rattle.site_sheet.specs.declared.SiteRead.{SiteRead}
-use Rattle.site_lines.specs.declared.Reading.{Reading}
+use Rattle.verdict.specs.Verdict.{Verdict}
+use Rattle.site_sheet.specs.Site.{SiteRead}
+use Rattle.site_lines.specs.Draft.{Reading}
 use Rattle.site_lines.specs.Line.{site_header_at}
 use Rattle.site_lines.specs.Draft.{blank_draft, plan_in}
 use Rattle.site_lines.specs.Taking.{sound_fault, lines_in}
@@ -44,15 +41,15 @@ abbrev Given : ℕ → List ℕ → SiteRead → Type 0
 Given most s x = Gives most s x.verdict
 
 -- a refusal where a search finds something, and what holds of both
-unless : (P : SiteRead → Type 0) (x : Found) {refusal : ℕ → Verdict} {on : SiteRead} → ((k : ℕ) → x ≡ found.At k → P (refused_site (refusal k)))
-    → (x ≡ found.Nothing → P on) → P (unless_found x refusal on)
-unless P (found.At k) f g = f k refl
-unless P found.Nothing f g = g refl
+unless : (P : SiteRead → Type 0) (x : Option ℕ) {refusal : ℕ → Verdict} {on : SiteRead} → ((k : ℕ) → x ≡ Some k → P (refused_site (refusal k)))
+    → (x ≡ None → P on) → P (unless_found x refusal on)
+unless P (Some k) f g = f k refl
+unless P None f g = g refl
 
-unless_pair_lem : (P : SiteRead → Type 0) (x : RightFound) {refusal : ℕ → ℕ → Verdict} {on : SiteRead} → ((p l : ℕ) → x ≡ pair.At p l → P (refused_site (refusal p l)))
-    → (x ≡ pair.Nothing → P on) → P (unless_pair x refusal on)
-unless_pair_lem P (pair.At p l) f g = f p l refl
-unless_pair_lem P pair.Nothing f g = g refl
+unless_pair_lem : (P : SiteRead → Type 0) (x : Option (ℕ × ℕ)) {refusal : ℕ → ℕ → Verdict} {on : SiteRead} → ((p l : ℕ) → x ≡ Some (p, l) → P (refused_site (refusal p l)))
+    → (x ≡ None → P on) → P (unless_pair x refusal on)
+unless_pair_lem P (Some (p, l)) f g = f p l refl
+unless_pair_lem P None f g = g refl
 
 module _ (most : ℕ) (s : List ℕ) (lines : List SiteLine) (d : Draft) (t : RowsFine most s lines) (h : Held lines d) where
   ruled : Ruled lines d

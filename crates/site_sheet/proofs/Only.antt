@@ -7,9 +7,8 @@ use mathlib.Core.Bool.{true}
 use mathlib.Core.List.{List, []}
 use lib.ListN.{length}
 use borrow.Author.Tests.{lt-ltb, le-ltb, ne_eqb}
+use Rattle.std.specs.Prelude.{None}
 use Rattle.tables.specs.Below.{Smallest, SmallestPair}
-use Rattle.findings.specs.declared.Found.TheVariants as found
-use Rattle.findings.specs.declared.RightFound.TheVariants as pair
 use Rattle.tables.specs.Tests.{first_stray, first_no_door, first_no_right}
 use Rattle.tables.proofs.Cases.{either}
 use Rattle.grammar.specs.declared.cut.RowCut.{RowCut}
@@ -23,10 +22,10 @@ use Rattle.grammar.proofs.Exact.{row_is_cut, cut_is_row}
 use Rattle.site_lines.specs.declared.SiteLine.{SiteLine}
 use Rattle.site_lines.specs.declared.SiteLine.TheVariants.{Site, Door, Exit, Right, Bad}
 use Rattle.site_lines.specs.declared.Draft.{Draft}
-use Rattle.site_lines.specs.declared.Fault.{Fault}
-use Rattle.verdict.specs.declared.Verdict.{Verdict}
-use Rattle.verdict.specs.declared.Verdict.TheVariants.{Accepted, BadRow, NoExit, Stray, NoDoor, NoRight, ShutOut}
-use Rattle.site_sheet.specs.declared.SiteRead.{SiteRead}
+use Rattle.site_lines.specs.Fault.{Fault}
+use Rattle.verdict.specs.Verdict.{Verdict}
+use Rattle.verdict.specs.Verdict.{Accepted, BadRow, NoExit, Stray, NoDoor, NoRight, ShutOut}
+use Rattle.site_sheet.specs.Site.{SiteRead}
 use Rattle.site_lines.specs.Line.{site_header_at}
 use Rattle.site_lines.specs.Draft.{blank_draft, plan_in}
 use Rattle.site_lines.specs.Taking.{verdict_of, lines_in, read_lines}
@@ -158,7 +157,7 @@ module _ {lines : List SiteLine} {d : Draft} (r : Ruled lines d) where
     given_7 {k} m = rw (r.six.none_back six, (r.seven six).at_back k m)
 
     module _ (seven : Seven lines) where
-      e₇ : first_stray d.locations d.exit ≡ found.Nothing
+      e₇ : first_stray d.locations d.exit ≡ None
       e₇ = (r.seven six).none_back seven
 
       given_8 : {k : ℕ} → Smallest (ExitHasDoor lines) (locations_in lines) k → (judged_draft d).verdict ≡ NoDoor k
@@ -166,7 +165,7 @@ module _ {lines : List SiteLine} {d : Draft} (r : Ruled lines d) where
       given_8 {k} m = rw (r.six.none_back six, e₇, (r.eight six).at_back k m)
 
       module _ (eight : Eight lines) where
-        e₈ : first_no_door (plan_in d) ≡ found.Nothing
+        e₈ : first_no_door (plan_in d) ≡ None
         e₈ = (r.eight six).none_back eight
 
         given_9 : {p l : ℕ} → SmallestPair (RightToExit lines) (people_in lines) (locations_in lines) p l → (judged_draft d).verdict ≡ NoRight p l
@@ -174,7 +173,7 @@ module _ {lines : List SiteLine} {d : Draft} (r : Ruled lines d) where
         given_9 {p} {l} m = rw (r.six.none_back six, e₇, e₈, (r.nine six).at_back p l m)
 
         module _ (nine : Nine lines) where
-          e₉ : first_no_right (plan_in d) d.right ≡ pair.Nothing
+          e₉ : first_no_right (plan_in d) d.right ≡ None
           e₉ = (r.nine six).none_back nine
 
           given_10 : {k : ℕ} → Smallest (ComesIn lines) (people_in lines) k → (judged_draft d).verdict ≡ ShutOut k

@@ -12,7 +12,7 @@ use Rattle.grammar.specs.Where.{cells_of, field_of}
 use Rattle.grammar.specs.Grammar.{Row, RowAt, bare, content, fields, Sheet, no_row, row}
 use Rattle.grammar.proofs.Unique.{row_unique}
 use Rattle.grammar.proofs.Exact.{row_is_cut, cut_is_row}
-use Rattle.verdict.specs.declared.Verdict.TheVariants.{BadRow}
+use Rattle.verdict.specs.Verdict.{BadRow}
 use Rattle.site_lines.specs.Line.{site_header_at}
 use Rattle.site_sheet.specs.Site.{refused_site, after_header, site_at}
 use Rattle.site_lines.specs.Says.{contents, TextSaysLines, nothing, a_row}

@@ -13,8 +13,8 @@ use Rattle.record.specs.Doors.{Shaped}
 use Rattle.record.specs.declared.record.Record.{Record}
 use Rattle.tables.proofs.Zero.{zeros_long}
 use Rattle.record.proofs.Fresh.{fresh_sound, fresh_shaped}
-use Rattle.verdict.specs.declared.Verdict.{Verdict}
-use Rattle.verdict.specs.declared.Verdict.TheVariants.{Accepted}
+use Rattle.verdict.specs.Verdict.{Verdict}
+use Rattle.verdict.specs.Verdict.{Accepted}
 use Rattle.grammar.specs.Grammar.{Row, Sheet}
 use Rattle.site_lines.specs.Draft.{plan_in}
 use Rattle.site_sheet.specs.Site.{site_at}

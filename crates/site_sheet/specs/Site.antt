@@ -1,9 +1,5 @@
 -- The whole site sheet: what is answered to it. 01, "Site sheet", "Numbers given back" and "The record".
-use Rattle.std.specs.Prelude.{ℕ, cond, List, length, ltb, eqb}
-use Rattle.findings.specs.declared.Found.{Found}
-use Rattle.findings.specs.declared.Found.TheVariants as found
-use Rattle.findings.specs.declared.RightFound.{RightFound}
-use Rattle.findings.specs.declared.RightFound.TheVariants as pair
+use Rattle.std.specs.Prelude.{ℕ, cond, List, length, ltb, eqb, Option, Some, None, Result}
 use Rattle.tables.specs.Tests.{first_no_exit, first_stray, first_no_door, first_no_right, first_shut_out}
 use Rattle.record.specs.declared.record.Record.{Record}
 use Rattle.record.specs.Doors.{fresh_record}
@@ -13,15 +9,23 @@ use Rattle.grammar.specs.Sizes.{limit}
 use Rattle.grammar.specs.Cut.{cut_row}
 use Rattle.grammar.specs.Rows.{rows_from}
 use Rattle.site_lines.specs.declared.Draft.{Draft}
-use Rattle.verdict.specs.declared.Verdict.{Verdict}
-use Rattle.verdict.specs.declared.Verdict.TheVariants.{Accepted, TooLong, BadRow, NoSite, NoExit, Stray, NoDoor, NoRight, ShutOut}
-use Rattle.site_sheet.specs.declared.SiteRead.{SiteRead}
-use Rattle.site_lines.specs.declared.Reading.{Reading}
+use Rattle.verdict.specs.declared.SiteRefused.{SiteRefused}
+use Rattle.verdict.specs.Verdict.{Verdict, if_accepted, Accepted, TooLong, BadRow, NoSite, NoExit, Stray, NoDoor, NoRight, ShutOut}
+use Rattle.site_lines.specs.Draft.{Reading}
 use Rattle.site_lines.specs.Line.{site_header_at}
 use Rattle.site_lines.specs.Draft.{blank_draft, plan_in}
 use Rattle.site_lines.specs.Taking.{sound_fault, verdict_of, lines_in, read_lines}
 -- the number and the places of a verdict, passed on to whoever reads of the whole sheet
 pub use Rattle.verdict.specs.Numbers.{verdict_no, first_place, second_place}
+
+-- The answer to a sheet: what is said of it, and the fresh record, or a blank one where the sheet is refused.
+pub record SiteRead : Type 0 where
+  pub verdict : Verdict
+  pub «record» : Record
+
+-- "A refused site sheet gives no new record.": of an answer, the record is handed out where the sheet is accepted, and else the refusal alone
+abbrev pub site_told : SiteRead → Result Record SiteRefused
+site_told read = if_accepted read.verdict read.record
 
 -- "A refused site sheet gives no new record.": the blank record has no people, so that it isn't sound
 abbrev pub blank_record : Record
@@ -37,13 +41,13 @@ accepted_site d = record {
   «record» = fresh_record (plan_in d) d.right;
 }
 
-abbrev pub unless_found : Found → (ℕ → Verdict) → SiteRead → SiteRead
-unless_found (found.At k) refusal on = refused_site (refusal k)
-unless_found found.Nothing refusal on = on
+abbrev pub unless_found : Option ℕ → (ℕ → Verdict) → SiteRead → SiteRead
+unless_found (Some k) refusal on = refused_site (refusal k)
+unless_found None refusal on = on
 
-abbrev pub unless_pair : RightFound → (ℕ → ℕ → Verdict) → SiteRead → SiteRead
-unless_pair (pair.At p l) refusal on = refused_site (refusal p l)
-unless_pair pair.Nothing refusal on = on
+abbrev pub unless_pair : Option (ℕ × ℕ) → (ℕ → ℕ → Verdict) → SiteRead → SiteRead
+unless_pair (Some (p, l)) refusal on = refused_site (refusal p l)
+unless_pair None refusal on = on
 
 -- "then 6 to 10 over the whole sheet, each finished before the next"
 abbrev pub judged_by10 : Draft → SiteRead

@@ -10,8 +10,9 @@ ghost use Rattle.tables.specs.Tables.{most_people};
 ghost use Rattle.sole_grants.specs.Sole.{sole_grants};
 ghost use Rattle.sole_grants.specs.Marks.{is_marked, with_mark, most_holder, WalkTells};
 
+use door::Doors;
 use door_fits::grants;
-use lists::{byte_at, word_at};
+use lists::{entry_at, put_entry};
 use tables::MOST_PEOPLE;
 
 // What a walk tells of the people that it has marks for.
@@ -33,6 +34,7 @@ fn no_marks() -> [bool; MOST_PEOPLE]
 }
 
 // Was this person marked before? Now they are, if they have a mark.
+#[tactic(auto, using(std::proofs::lemmas::Bool::Decides::nat_tests), unfolding(tables::specs::Tables::and_also, crate::specs::Marks::is_marked, crate::specs::Marks::with_mark))]
 fn met_before(met: &mut [bool], from: usize, person: usize) -> bool
     ensures is_marked { result ≡ is_marked met.old from person }
     ensures with_mark { met.new ≡ with_mark met.old from person }
@@ -40,28 +42,21 @@ fn met_before(met: &mut [bool], from: usize, person: usize) -> bool
     if person < from {
         return false;
     }
-    let at = person - from;
-    if met.len() <= at {
-        return false;
-    }
-    let before = met[at];
-    met[at] = true;
+    let before = entry_at(met, person - from);
+    put_entry(met, person - from, true);
     before
 }
 
-// One walk over the doors, with marks for the people from this one on.
-fn walk_doors<'a>(from: usize, doors: usize, phase: &'a [u8], holder: &'a [u16]) -> Walked
+// One walk over the doors, with marks for the people from this one on. By the index, which looks into two lists.
+fn walk_doors(from: usize, doors: usize, so: Doors) -> Walked
     requires { from ≤ most_holder }
-    ensures { WalkTells from doors phase.now holder.now result }
+    ensures { WalkTells from doors so.entry.phase.now so.entry.holder.now result }
 {
     let mut met = no_marks();
     let mut told = Walked::Sole;
-    let mut door = 0;
-    while door < doors {
-        let at = door;
-        door += 1;
-        if grants(byte_at(phase, at)) {
-            let person = word_at(holder, at) as usize;
+    for door in 0..doors {
+        if grants(entry_at(so.phase, door)) {
+            let person = entry_at(so.holder, door) as usize;
             if met_before(&mut met, from, person) {
                 return Walked::Twice;
             }
@@ -73,18 +68,16 @@ fn walk_doors<'a>(from: usize, doors: usize, phase: &'a [u8], holder: &'a [u16])
     told
 }
 
-// Whether of no person two of so many doors hold a grant.
-pub fn sole_grants<'a>(doors: usize, phase: &'a [u8], holder: &'a [u16]) -> bool
-    ensures { result ≡ sole_grants doors phase.now holder.now }
+// Whether of no person two of so many doors hold a grant. A `loop`, since each walk tells whether another is needed.
+pub fn sole_grants(doors: usize, so: Doors) -> bool
+    ensures { result ≡ sole_grants doors so.entry.phase.now so.entry.holder.now }
 {
     let mut from = 0;
     loop {
-        match walk_doors(from, doors, phase, holder) {
+        match walk_doors(from, doors, so) {
             Walked::Twice => return false,
             Walked::Sole => return true,
-            Walked::Beyond => {
-                from += MOST_PEOPLE;
-            }
+            Walked::Beyond => from += MOST_PEOPLE,
         }
     }
 }

@@ -1,3 +1,2 @@
--- `Onward`: loops over the entries from one on. `Rights`: the rights that nobody can have.
-pub mod Onward
+-- `Rights`: the rights that nobody can have.
 pub mod Rights

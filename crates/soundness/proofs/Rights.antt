@@ -1,20 +1,20 @@
 -- The rights that nobody can have: what a test of an entry tells, and the loop over the people. Assumes nothing.
-use Prim.Native.Nat.{ℕ, ◌+◌, ◌-◌, ◌*◌, ◌/◌, ◌%◌, ◌≤◌, ◌<◌}
-use mathlib.Core.Path.{◌≡◌, sym}
+use Prim.Native.Nat.{ℕ, ◌+◌, ◌*◌, ◌/◌, ◌%◌, ◌≤◌, ◌<◌}
+use mathlib.Core.Path.{◌≡◌}
 use mathlib.Core.Bool.{Bool, true, false}
 use mathlib.Core.List.{List}
 use mathlib.Core.Logic.{⊎_elim}
-use native.Mathlib.Nat.{not-suc-le-zero}
 use native.Mathlib.Omega.{arith}
-use borrow.Author.Tests.{ltb-false, le-ltb}
+use borrow.Author.Tests.{ltb-true, ltb-false, lt-ltb, le-ltb}
+use Rattle.std.specs.Int.{div_ceil}
 use lib.ListN.{length, get_or, get_or-eq_default}
 use lib.Dec.{ltb}
 use Rattle.tables.specs.Tables.{most_locations}
 use Rattle.tables.specs.Below.{all_below, Tells}
-use Rattle.tables.proofs.Laws.{clash, not_so, all_yes, all_back, tell_lt, tell_and, tell_all, tell_as, tell_unless, tell_when, tell_fails, tell_same}
+use Rattle.tables.proofs.Laws.{clash, not_so, tell_lt, tell_and, tell_all, tell_as, tell_unless, tell_when, tell_fails, tell_same, tell_itself, tell_cond}
 use Rattle.tables.proofs.Cases.{below_or_not}
 use Rattle.soundness.specs.SoundTest.{right_fits, rights_fit}
-use Rattle.soundness.specs.Rights.{not_given, none_given, row_fits}
+use Rattle.soundness.specs.Rights.{not_given, none_given, row_fits, person_fits}
 
 -- ---- an entry
 
@@ -47,70 +47,65 @@ pub tell_row : (locations : ℕ) (right : List Bool) (row : ℕ)
 unfolding row_fits
 tell_row locations right row = tell_and (tell_fails (get_or right row false)) (tell_none (row + locations) (row + most_locations) right)
 
+-- where the entries end before they begin, none is given
+pub none_past : (from to : ℕ) (right : List Bool) → to ≤ from → none_given from to right ≡ true
+none_past from to right h = (tell_none from to right).back (λ i l low. absurd (omega arith))
+
+-- ---- the rows
+
 module _ (people locations : ℕ) (right : List Bool) where
-  -- the loop has come to the rights from `row` on, those of the first of so many people who are left
-  pub record RowsSoFar (left row : ℕ) : Type 0 where
-    pub counts : row + left * most_locations ≡ people * most_locations
-    pub before : (i : ℕ) → i < row → right_fits people locations right i ≡ true
+  -- the rights of a person's row fit
+  Clear : ℕ → Type 0
+  Clear p = (i : ℕ) → p * most_locations ≤ i → i < p * most_locations + most_locations → right_fits people locations right i ≡ true
 
-  pub rows_start : RowsSoFar people 0
-  rows_start = record { counts = omega arith; before = λ i h. absurd (not-suc-le-zero h) }
+  Row : ℕ → Type 0
+  Row row = (get_or right row false ≡ false) × ((i : ℕ) → i < row + most_locations → row + locations ≤ i → get_or right i false ≡ false)
 
-  module _ {left row : ℕ} (s : RowsSoFar left row) where
-    -- the rows are whole
-    whole : row % most_locations ≡ 0
-    whole = let c = s.counts in omega arith
+  None : ℕ → Type 0
+  None row = (i : ℕ) → i < row + most_locations → row ≤ i → get_or right i false ≡ false
 
-    pub rows_more : (left ≡ 0 → ⊥) → row_fits locations right row ≡ true → RowsSoFar (left - 1) (row + most_locations)
-    rows_more some fits =
-        record {
-          counts = let c = s.counts in omega arith;
-          before = λ i h. ⊎_elim (s.before i) (λ low. here i low h) (below_or_not i row);
-        }
-      where
-        clear : (get_or right row false ≡ false) × ((i : ℕ) → i < row + most_locations → row + locations ≤ i → get_or right i false ≡ false)
-        clear = (tell_row locations right row).yes fits
+  clear_of : (p : ℕ) → (p < people → Row (p * most_locations)) × ((p < people → ⊥) → None (p * most_locations)) → Clear p
+  unfolding Clear Row None
+  clear_of p t i low h = (tell_right people locations right i).back (λ e. ⊎_elim (inside e) (outside e) (below_or_not p people))
+    where
+      inside : get_or right i false ≡ true → p < people → (i / most_locations < people) × ((0 < i % most_locations) × (i % most_locations < locations))
+      inside e q =
+          let r = t.0 q in
+          let first : i ≡ p * most_locations → ⊥ = λ is. clash e (rw is r.0) in
+          let far : p * most_locations + locations ≤ i → ⊥ = λ f. clash e (r.1 i h f) in
+          (omega arith, (omega arith, omega arith))
 
-        inside : (i : ℕ) → row < i → i < row + locations → i < row + most_locations → right_fits people locations right i ≡ true
-        inside i low near h =
-            let c = s.counts in
-            let w = whole in
-            (tell_right people locations right i).back (λ _. (omega arith, (omega arith, omega arith)))
+      outside : get_or right i false ≡ true → people ≤ p → (i / most_locations < people) × ((0 < i % most_locations) × (i % most_locations < locations))
+      outside e q = clash e (t.1 (λ l. omega arith) i h low)
 
-        here : (i : ℕ) → row ≤ i → i < row + most_locations → right_fits people locations right i ≡ true
-        here i low h =
-            ⊎_elim
-            (λ more.
-            ⊎_elim (λ near. inside i more near h) (λ far. not_given_fits people locations right i (clear.1 i h far)) (below_or_not i (row + locations)))
-            (λ le. let is : i ≡ row = omega arith in rw is (not_given_fits people locations right row clear.0))
-            (below_or_not row i)
+  of_clear : (p : ℕ) → Clear p → (p < people → Row (p * most_locations)) × ((p < people → ⊥) → None (p * most_locations))
+  unfolding Clear Row None
+  of_clear p clear = (
+    λ q. (
+      not_so _ (λ e. let o = ok (p * most_locations) (omega arith) (omega arith) e in absurd (omega arith)),
+      λ i h far. not_so _ (λ e. let o = ok i (omega arith) h e in absurd (omega arith)),
+    ),
+    λ none i h low. not_so _ (λ e. let o = ok i low h e in absurd (none (omega arith))),
+  )
+    where
+      ok : (i : ℕ) → p * most_locations ≤ i → i < p * most_locations + most_locations → RightOk people locations right i
+      ok i low h = (tell_right people locations right i).yes (clear i low h)
 
-    pub row_unfit : (left ≡ 0 → ⊥) → row_fits locations right row ≡ false → false ≡ rights_fit people locations right
-    unfolding rights_fit
-    row_unfit some fails = sym (not_so _ (λ all. clash ((tell_row locations right row).back (clear all)) fails))
-      where
-        ok : all_below (right_fits people locations right) (length right) ≡ true → (i : ℕ) → RightOk people locations right i
-        ok all i e =
-            ⊎_elim (λ h. (tell_right people locations right i).yes (all_yes (right_fits people locations right) (length right) all i h) e)
-            (λ far. clash e (get_or-eq_default right false far)) (below_or_not i (length right))
+  -- a person's rights fit exactly when the test of their row says so
+  tell_person : (p : ℕ) → Tells (person_fits people locations right p) (Clear p)
+  unfolding person_fits Row None
+  tell_person p =
+      tell_as (clear_of p) (of_clear p)
+      (tell_cond (ltb p people) (ltb-true p people) (lt-ltb p people) (tell_row locations right (p * most_locations))
+      (tell_none (p * most_locations) (p * most_locations + most_locations) right))
 
-        clear : all_below (right_fits people locations right) (length right) ≡ true
-            → (get_or right row false ≡ false) × ((i : ℕ) → i < row + most_locations → row + locations ≤ i → get_or right i false ≡ false)
-        clear all = (
-          not_so _ (λ e. let o = ok all row e in let w = whole in absurd (omega arith)),
-          λ i h far. not_so _ (λ e. let o = ok all i e in let w = whole in absurd (omega arith)),
-        )
-
-    pub rows_end : length right ≤ row → true ≡ rights_fit people locations right
-    unfolding rights_fit
-    rows_end h = sym (all_back (right_fits people locations right) (length right) (λ i l. s.before i (omega arith)))
-
-    -- nobody is left: beyond the people no right is given
-    pub rows_beyond : left ≡ 0 → none_given row (length right) right ≡ rights_fit people locations right
-    unfolding rights_fit
-    rows_beyond none =
-        tell_same (tell_none row (length right) right)
-        (tell_as
-        (λ ok i h low. not_so _ (λ e. let o = ok i h e in let c = s.counts in absurd (omega arith)))
-        (λ clear i h. ⊎_elim (λ l. (tell_right people locations right i).yes (s.before i l)) (λ low e. clash e (clear i h low)) (below_or_not i row))
-        (tell_all (right_fits people locations right) (RightOk people locations right) (length right) (tell_right people locations right)))
+  -- the rows are all the rights
+  pub rows_are : all_below (person_fits people locations right) (div_ceil (length right) most_locations) ≡ rights_fit people locations right
+  unfolding rights_fit Clear
+  rows_are =
+      tell_same (tell_all (person_fits people locations right) Clear (div_ceil (length right) most_locations) tell_person)
+      (tell_as
+      (λ all p h i low near. ⊎_elim (all i) (λ far. not_given_fits people locations right i (get_or-eq_default right false far)) (below_or_not i (length right)))
+      (λ clear i h. clear (i / most_locations) (omega arith) i (omega arith) (omega arith))
+      (tell_all (right_fits people locations right) (λ i. right_fits people locations right i ≡ true) (length right)
+      (λ i. tell_itself (right_fits people locations right i))))

@@ -16,10 +16,12 @@ use Rattle.phases.specs.declared.answer.Answer.TheVariants.{Done, TooShort, Unso
 use Rattle.record.specs.declared.series.Ran.{Ran}
 use Rattle.phases.specs.Answers.{answer_no}
 use Rattle.record.specs.Doors.{Shaped}
-use Rattle.phases.specs.Kinds.{StepRow, kind_of}
+use Rattle.phases.specs.declared.table.StepRow.{StepRow}
+use Rattle.phases.specs.Kinds.{kind_of}
 use Rattle.record.specs.Sound.{Sound}
 use Rattle.record.specs.SoundTest.{sound_b}
 use Rattle.record.specs.Steps.{sound_step, step_of}
+use Rattle.step_list.specs.Room.{RunRoom}
 use Rattle.record.specs.Run.{row_of, rows_of, last_of, Reply, reply_by, replies_of, answer_told, phase_told, reason_told, held_told, room_for, ran_of, telling_of}
 use Rattle.record.proofs.Laws.{sound_steps, sound_stays, shaped_stays, room_stays}
 
@@ -168,19 +170,11 @@ module _ (r : Record) (room : Bool) (told list : List ℕ) (s : Bool) (tested : 
   telling_done b written fine is enough e = rw (← tested, not-false s fine, ← is, not-false b enough) e
 
 -- where there is room every list is long enough
-pub record RunRoom (steps doors persons answers phases reasons held : ℕ) : Type 0 where
-  pub in_doors : steps ≤ doors
-  pub in_persons : steps ≤ persons
-  pub in_answers : steps ≤ answers
-  pub in_phases : steps ≤ phases
-  pub in_reasons : steps ≤ reasons
-  pub in_held : steps ≤ held
-
-pub room : (a b c d e f g : ℕ) (t : Bool) → t ≡ room_for a b c d e f g → not t ≡ false → RunRoom a b c d e f g
+pub room : (a b c d e f g : ℕ) → room_for a b c d e f g ≡ true → RunRoom a b c d e f g
 unfolding room_for
-room a b c d e f g t is enough =
+room a b c d e f g enough =
     let all =
-    (tell_and (tell_le a b) (tell_and (tell_le a c) (tell_and (tell_le a d) (tell_and (tell_le a e) (tell_and (tell_le a f) (tell_le a g)))))).yes (sym is ∙ not-false t enough)
+    (tell_and (tell_le a b) (tell_and (tell_le a c) (tell_and (tell_le a d) (tell_and (tell_le a e) (tell_and (tell_le a f) (tell_le a g)))))).yes enough
     in
     record {
       in_doors = all.0;

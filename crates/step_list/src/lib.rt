@@ -2,19 +2,22 @@
 // step before it handed back.
 #![tactic(auto)]
 
-ghost use Rattle.std.specs.Prelude.{◌≡◌, map, ◌≤◌, length};
+ghost use Rattle.std.specs.Prelude.{◌≡◌, map, length};
 ghost use Rattle.std.proofs.lemmas.List.Edits.{sets};
 ghost use Rattle.record.specs.Sound.{Sound};
+ghost use Rattle.step_list.specs.Room.{RunRoom};
 ghost use Rattle.record.specs.Run.{rows_of, last_of, replies_of, answer_told, phase_told, reason_told, held_told};
 ghost use Rattle.record.specs.Run.{room_for, run_of, answers_of, phases_of, reasons_of, held_of};
 
-use deeds::{carry_out, judge};
-use lists::word_at;
+use deeds::judge;
+use lists::entry_at;
+use numbers::Numbered;
 use phases::answer::Answer;
 use phases::table::Kind;
 use record::{Ran, Record};
 
 // Has each list room for this many steps?
+#[tactic(auto, unfolding(record::specs::Run::room_for, tables::specs::Tables::and_also))]
 fn room_for(
     steps: usize,
     doors: usize,
@@ -26,25 +29,15 @@ fn room_for(
 ) -> bool
     ensures { result ≡ room_for steps doors persons answers phases reasons held }
 {
-    if doors < steps {
-        return false;
-    }
-    if persons < steps {
-        return false;
-    }
-    if answers < steps {
-        return false;
-    }
-    if phases < steps {
-        return false;
-    }
-    if reasons < steps {
-        return false;
-    }
-    steps <= held
+    steps <= doors
+        && steps <= persons
+        && steps <= answers
+        && steps <= phases
+        && steps <= reasons
+        && steps <= held
 }
 
-// The steps of a sound record, one after the other.
+// The steps of a sound record, one after the other. By the index, which looks into seven lists.
 fn run_rows<'a>(
     mut start: Record,
     steps: &'a [u8],
@@ -56,50 +49,35 @@ fn run_rows<'a>(
     held: &'a mut [usize],
 ) -> Record
     requires sound { Sound start }
-    requires steps_in_bounds { (length steps.now ≤ length doors.now) × (length steps.now ≤ length persons.now) }
-    requires steps_in_bounds_2 { (length steps.now ≤ length answers.old) × (length steps.now ≤ length phases.old) × (length steps.now ≤ length reasons.old) × (length steps.now ≤ length held.old) }
+    requires room { RunRoom (length steps.now) (length doors.now) (length persons.now) (length answers.old) (length phases.old) (length reasons.old) (length held.old) }
     ensures last { result ≡ last_of start (rows_of steps.now doors.now persons.now) }
     ensures answers { answers.new ≡ sets answers.old 0 (map answer_told (replies_of start (rows_of steps.now doors.now persons.now))) }
     ensures phases { phases.new ≡ sets phases.old 0 (map phase_told (replies_of start (rows_of steps.now doors.now persons.now))) }
     ensures reasons { reasons.new ≡ sets reasons.old 0 (map reason_told (replies_of start (rows_of steps.now doors.now persons.now))) }
     ensures held { held.new ≡ sets held.old 0 (map held_told (replies_of start (rows_of steps.now doors.now persons.now))) }
 {
-    let mut place = start.place;
-    let mut phase = start.phase;
-    let mut holder = start.holder;
-    let mut count = start.count;
-    let mut at = 0;
-    while at < steps.len() {
-        let door = word_at(doors, at) as usize;
+    let mut moving = start.moving();
+    for at in 0..steps.len() {
+        let door = entry_at(doors, at) as usize;
         let deed = judge(
-            start.people,
-            start.doors,
-            &start.origin,
-            &start.destination,
-            &start.right,
-            &place,
-            &phase,
-            &holder,
-            &count,
-            Kind::of(steps[at]),
+            start.tables(),
+            &moving.place,
+            moving.door_lists(),
+            Kind::from(steps[at]),
             door,
-            word_at(persons, at) as usize,
+            entry_at(persons, at) as usize,
         );
-        let told = carry_out(deed, door, &mut place, &mut phase, &mut holder, &mut count);
-        let answer = told.answer;
-        answers[at] = answer.number();
+        let told = moving.carry_out(deed, door);
+        answers[at] = told.answer.number();
         phases[at] = told.phase;
         reasons[at] = told.reason;
         held[at] = told.held;
-        at += 1;
     }
-    start.place = place;
-    start.phase = phase;
-    start.holder = holder;
-    start.count = count;
+    start.hold(&moving);
     start
 }
 
+// Seven lists, and none of structs: `run_of` and the rows `short` of the tests speak of lists of unlike lengths.
 // Runs a list of steps: the number of each step, its door and its person are lent, and the
 // answer, the phase, the reason and the held door of each are written into the lists lent for them.
 pub fn run<'a>(

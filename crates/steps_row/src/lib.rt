@@ -1,107 +1,53 @@
-// What a row of a steps sheet says: a step with its door and its person, or that it is of bad form. The definitions, and the
+// What a row of a steps sheet says: a step with its door and its person, or nothing where it is of bad form. The definitions, and the
 // theorems of them, are those of crate `steps_sheet`.
 #![tactic(auto)]
 
 ghost use Rattle.std.specs.Prelude.{◌≡◌};
-ghost use Rattle.steps_sheet.specs.Steps.{kind_at, kind_from, person_at, steps_line_at};
+ghost use Rattle.steps_sheet.specs.Steps.{kind_at, person_at, steps_line_at};
 
-use cell_meaning::Number;
 use cells::say::{is_word, number_of};
 use grammar::cut::{Cell, Cells};
-use phases::table::Kind;
-use steps_sheet::StepsLine;
+use phases::table::{Kind, StepRow};
 
-// The step that a field names. Here and below a few words are tried at a time, in the paper's order, and the next function tries
-// those behind them.
+// The words of the ten steps, each at its step's number.
+const WORDS: [&[u8]; 10] = [
+    b"card", b"decide", b"green", b"red", b"walk", b"tick", b"passed", b"lapsed", b"dark", b"ack",
+];
+
+// The step that a field names.
 fn kind_of(s: &[u8], cell: Cell) -> Kind
     ensures { result ≡ kind_at s.now cell }
 {
-    if is_word(s, cell, b"card") {
-        return Kind::Card;
+    match WORDS.iter().position(|word| is_word(s, cell, word)) {
+        Some(number) => Kind::from(number as u8),
+        None => Kind::Unknown,
     }
-    if is_word(s, cell, b"decide") {
-        return Kind::Decide;
-    }
-    if is_word(s, cell, b"green") {
-        return Kind::Green;
-    }
-    kind_from_red(s, cell)
-}
-
-// The same of a field that names none of the first three steps.
-fn kind_from_red(s: &[u8], cell: Cell) -> Kind
-    ensures { result ≡ kind_from Kind.Red s.now cell }
-{
-    if is_word(s, cell, b"red") {
-        return Kind::Red;
-    }
-    if is_word(s, cell, b"walk") {
-        return Kind::Walk;
-    }
-    if is_word(s, cell, b"tick") {
-        return Kind::Tick;
-    }
-    kind_from_passed(s, cell)
-}
-
-// The same of a field that names none of the first six.
-fn kind_from_passed(s: &[u8], cell: Cell) -> Kind
-    ensures { result ≡ kind_from Kind.Passed s.now cell }
-{
-    if is_word(s, cell, b"passed") {
-        return Kind::Passed;
-    }
-    if is_word(s, cell, b"lapsed") {
-        return Kind::Lapsed;
-    }
-    kind_from_dark(s, cell)
-}
-
-// The same of a field that names none of the first eight.
-fn kind_from_dark(s: &[u8], cell: Cell) -> Kind
-    ensures { result ≡ kind_from Kind.Dark s.now cell }
-{
-    if is_word(s, cell, b"dark") {
-        return Kind::Dark;
-    }
-    if is_word(s, cell, b"ack") {
-        return Kind::Ack;
-    }
-    Kind::Unknown
 }
 
 // The person that a row names: a number for `card`, and nothing for every other step.
-fn person_of(s: &[u8], kind: Kind, cell: Cell) -> Number
+#[tactic(auto, using(phases::proofs::Steps::others_name_none), unfolding(steps_sheet::specs::Steps::person_at))]
+fn person_of(s: &[u8], kind: Kind, cell: Cell) -> Option<usize>
     ensures { result ≡ person_at s.now kind cell }
 {
-    if let Kind::Card = kind {
+    if kind == Kind::Card {
         return number_of(s, cell);
     }
-    if is_word(s, cell, b"") {
-        return Number::Is(0);
-    }
-    Number::None
+    if is_word(s, cell, b"") { Some(0) } else { None }
 }
 
-// What a row with these cells says.
-pub fn steps_line_of(s: &[u8], cells: Cells) -> StepsLine
+// The step that a row with these cells is; none where it is of bad form.
+#[tactic(auto, using(cell_meaning::proofs::Saying::number_small, steps_sheet::proofs::Rows::others_are_steps, steps_sheet::proofs::Rows::person_small), unfolding(steps_sheet::specs::Steps::steps_line_at))]
+pub fn steps_line_of(s: &[u8], cells: Cells) -> Option<StepRow>
     ensures { result ≡ steps_line_at s.now cells }
 {
     if cells.count != 3 {
-        return StepsLine::Bad;
+        return None;
     }
-    let first = cells.first;
-    let second = cells.second;
-    let third = cells.third;
-    let Number::Is(door) = number_of(s, second) else {
-        return StepsLine::Bad;
-    };
-    let kind = kind_of(s, first);
-    let Number::Is(person) = person_of(s, kind, third) else {
-        return StepsLine::Bad;
-    };
-    if let Kind::Unknown = kind {
-        return StepsLine::Bad;
+    let at = number_of(s, cells.second)? as u16;
+    let kind = kind_of(s, cells.first);
+    let person = person_of(s, kind, cells.third)? as u16;
+    if kind == Kind::Unknown {
+        return None;
     }
-    StepsLine::Step(kind, door as u16, person as u16)
+    Some(StepRow { kind, at, person })
 }

@@ -16,11 +16,9 @@ use Rattle.grammar.specs.declared.cut.Cells.{Cells}
 use Rattle.grammar.specs.declared.cut.RowCut.{RowCut}
 use Rattle.grammar.specs.declared.cut.RowCut.TheVariants.{Cut, NoRow, Broken}
 use Rattle.grammar.proofs.Reading.{cut_there, rows_next}
-use Rattle.phases.specs.declared.table.Kind.{Kind}
-use Rattle.phases.specs.declared.answer.Answer.TheVariants.{Done}
+use Rattle.std.specs.Prelude.{Option, Some, None, Ok}
+use Rattle.phases.specs.declared.table.StepRow.{StepRow}
 use Rattle.phases.specs.Kinds.{number_of_kind}
-use Rattle.steps_sheet.specs.declared.StepsLine.{StepsLine}
-use Rattle.steps_sheet.specs.declared.StepsLine.TheVariants.{Step, Bad}
 use Rattle.steps_sheet.specs.Says.{Steps}
 use Rattle.steps_sheet.specs.Steps.{steps_line_at, no_steps, before, steps_in, steps_from}
 use Rattle.steps_sheet.specs.Lent.{most_in, room_for_steps, steps_room_in, kinds_in, doors_in, persons_in, decoded_of, listed, decoded_in, kinds_listed, doors_listed, persons_listed}
@@ -74,14 +72,14 @@ steps_turn s at e = ap (steps_in s) (rows_next s at ∙ ap (λ c. on_row c (rows
 module _ {s : List ℕ} {from : ℕ} {kinds₀ doors₀ persons₀ kinds doors persons : List ℕ} {count at : ℕ}
     (so : Decoding s from kinds₀ doors₀ persons₀ kinds doors persons count at) (cut : RowCut) (told : cut ≡ cut_row s at) where
   -- a step
-  module _ {cells : Cells} {next d p : ℕ} {k : Kind} (row : cut ≡ Cut cells next) (line : StepsLine) (said : line ≡ steps_line_at s cells) (step : line ≡ Step k d p) where
-    turn : steps_from s at ≡ before (Step k d p) (steps_from s next)
+  module _ {cells : Cells} {next : ℕ} {step : StepRow} (row : cut ≡ Cut cells next) (line : Option StepRow) (said : line ≡ steps_line_at s cells) (is_step : line ≡ Some step) where
+    turn : steps_from s at ≡ before (Some step) (steps_from s next)
     unfolding steps_in
-    turn = steps_turn s at (sym told ∙ row) ∙ ap (λ (x : StepsLine). before x (steps_from s next)) (sym said ∙ step)
+    turn = steps_turn s at (sym told ∙ row) ∙ ap (λ (x : Option StepRow). before x (steps_from s next)) (sym said ∙ is_step)
 
     one_more : length (steps_from s from).rows ≡ count + 1 + length (steps_from s next).rows
     one_more =
-        let one : length (steps_from s at).rows ≡ length (before (Step k d p) (steps_from s next)).rows = ap (λ (x : Steps). length x.rows) turn in
+        let one : length (steps_from s at).rows ≡ length (before (Some step) (steps_from s next)).rows = ap (λ (x : Steps). length x.rows) turn in
         let all = so.counted in
         omega arith
 
@@ -99,8 +97,8 @@ module _ {s : List ℕ} {from : ℕ} {kinds₀ doors₀ persons₀ kinds doors p
     pub decode_less : length s - next < length s - at
     decode_less = let w = cut_there s at (sym told ∙ row) in omega arith
 
-    pub decode_more : (number : ℕ) → number ≡ number_of_kind k
-        → Decoding s from kinds₀ doors₀ persons₀ (set kinds count number) (set doors count d) (set persons count p) (count + 1) next
+    pub decode_more : (number : ℕ) → number ≡ number_of_kind step.kind
+        → Decoding s from kinds₀ doors₀ persons₀ (set kinds count number) (set doors count step.at) (set persons count step.person) (count + 1) next
     decode_more number is =
         record {
           few = let all = one_more in let few = steps_few s from in omega arith;
@@ -115,7 +113,7 @@ module _ {s : List ℕ} {from : ℕ} {kinds₀ doors₀ persons₀ kinds doors p
   module _ (room : steps_room_in s kinds₀ doors₀ persons₀ ≡ true) where
     abbrev pub Ends : Bool → Type 0
     Ends whole =
-        (record { answer = Done; count = count; whole = whole } ≡ decoded_in s from kinds₀ doors₀ persons₀)
+        (Ok (record { count = count; whole = whole }) ≡ decoded_in s from kinds₀ doors₀ persons₀)
         × ((kinds ≡ kinds_listed s from kinds₀ doors₀ persons₀)
         × ((doors ≡ doors_listed s from kinds₀ doors₀ persons₀) × (persons ≡ persons_listed s from kinds₀ doors₀ persons₀)))
 
@@ -136,10 +134,10 @@ module _ {s : List ℕ} {from : ℕ} {kinds₀ doors₀ persons₀ kinds doors p
           ),
         )
 
-    pub decode_bad : {cells : Cells} {next : ℕ} → cut ≡ Cut cells next → (line : StepsLine) → line ≡ steps_line_at s cells → line ≡ Bad → Ends false
+    pub decode_bad : {cells : Cells} {next : ℕ} → cut ≡ Cut cells next → (line : Option StepRow) → line ≡ steps_line_at s cells → line ≡ None → Ends false
     unfolding steps_in
     decode_bad {cells} {next} row line said bad =
-        decode_end false (steps_turn s at (sym told ∙ row) ∙ ap (λ (x : StepsLine). before x (steps_from s next)) (sym said ∙ bad))
+        decode_end false (steps_turn s at (sym told ∙ row) ∙ ap (λ (x : Option StepRow). before x (steps_from s next)) (sym said ∙ bad))
 
     pub decode_over : cut ≡ NoRow → Ends true
     unfolding steps_in

@@ -10,7 +10,7 @@ use lib.Dec.{eqb}
 use Rattle.grammar.specs.Grammar.{quote, comma, cr, lf, Field, bare, quoted, content, escape, field_text, Row, only, ◌then◌, fields, row_text, ended, last}
 use Rattle.grammar.specs.Where.{field_of}
 use Rattle.phases.specs.declared.table.Kind.{Kind}
-use Rattle.phases.specs.Kinds.{StepRow}
+use Rattle.phases.specs.declared.table.StepRow.{StepRow}
 use Rattle.steps_sheet.specs.Words.{StepWord, card, decide, green, red, walk, tick, passed, lapsed, dark, ack}
 use Rattle.steps_sheet.specs.Says.{SaysStep, TextSaysSteps, nothing, a_step, bad_row_first, no_row_there}
 use Rattle.steps_sheet.specs.Steps.{steps_from}

@@ -2,17 +2,16 @@
 -- Assumes nothing.
 use Prim.Native.Nat.{ℕ, zero, suc, ◌^◌, ◌<◌}
 use native.Mathlib.Omega.{arith}
-use mathlib.Core.Path.{◌≡◌, refl, sym, ◌∙◌}
+use mathlib.Core.Path.{◌≡◌, refl, sym, ap, ◌∙◌}
 use mathlib.Core.Bool.{Bool, true, false, cond}
 use mathlib.Core.List.{List, []}
 use lib.ListN.{length, get_or}
 use lib.Dec.{eqb}
 use borrow.Author.Tests.{eq-eqb, eqb-true}
+use Rattle.std.specs.Prelude.{Option, Some, None}
 use Rattle.tables.proofs.Laws.{clash}
 use Rattle.grammar.specs.declared.cut.Cell.{Cell}
 use Rattle.grammar.specs.declared.cut.Cells.{Cells}
-use Rattle.cell_meaning.specs.declared.Number.{Number}
-use Rattle.cell_meaning.specs.declared.Number.TheVariants as number
 use Rattle.grammar.specs.Grammar.{Row, content, fields}
 use Rattle.grammar.specs.Where.{holds_quote, field_of, RowHolds}
 use Rattle.grammar.specs.Sizes.{width}
@@ -22,9 +21,8 @@ use Rattle.cell_meaning.proofs.Contents.{word_same, number_same}
 use Rattle.cell_meaning.proofs.Naming.{NoQuotes, none, more, by_place, named_same}
 use Rattle.phases.specs.declared.table.Kind.{Kind}
 use Rattle.phases.specs.declared.table.Kind.TheVariants.{Card, Decide, Green, Red, Walk, Tick, Passed, Lapsed, Dark, Ack, Unknown}
-use Rattle.phases.specs.Kinds.{StepRow, kind_of, names_person}
-use Rattle.steps_sheet.specs.declared.StepsLine.{StepsLine}
-use Rattle.steps_sheet.specs.declared.StepsLine.TheVariants.{Step, Bad}
+use Rattle.phases.specs.declared.table.StepRow.{StepRow}
+use Rattle.phases.specs.Kinds.{kind_of, names_person}
 use Rattle.steps_sheet.specs.Words.{card_word, decide_word, green_word, red_word, walk_word, tick_word, passed_word, lapsed_word, dark_word, ack_word, step_words}
 use Rattle.steps_sheet.specs.Words.{StepWord, card, decide, green, red, walk, tick, passed, lapsed, dark, ack}
 use Rattle.steps_sheet.specs.Says.{PersonSaid, a_person, nobody, SaysStep, BadForm}
@@ -49,13 +47,13 @@ others_are_steps Unknown ne = absurd (ne refl)
 kind_in : List ℕ → Kind
 kind_in c = kind_of (place_in step_words c)
 
-person_in : Kind → List ℕ → Number
-person_in kind c = cond (names_person kind) (number_in c) (cond (same_bytes c []) (number.Is 0) number.None)
+person_in : Kind → List ℕ → Option ℕ
+person_in kind c = cond (names_person kind) (number_in c) (cond (same_bytes c []) (Some 0) None)
 
-pub step_from : Row → StepsLine
+pub step_from : Row → Option StepRow
 step_from r =
     cond (eqb (length (fields r)) 3)
-    (steps_line_of (kind_in (content (field_of 0 r))) (number_in (content (field_of 1 r))) (person_in (kind_in (content (field_of 0 r))) (content (field_of 2 r)))) Bad
+    (steps_line_of (kind_in (content (field_of 0 r))) (number_in (content (field_of 1 r))) (person_in (kind_in (content (field_of 0 r))) (content (field_of 2 r)))) None
 
 -- ---- the cells of a row say what its contents do
 
@@ -84,8 +82,8 @@ module _ (s : List ℕ) {cells : Cells} (r : Row) (h : RowHolds s cells r) where
   step_line_same = rw (← h.count) (go (eqb cells.count 3) refl)
     where
       go : (q : Bool) → eqb cells.count 3 ≡ q
-          → cond (eqb cells.count 3) (steps_line_of (kind_at s cells.first) (number_at s cells.second) (person_at s (kind_at s cells.first) cells.third)) Bad
-          ≡ cond (eqb cells.count 3) (steps_line_of (kind_in (content (field_of 0 r))) (number_in (content (field_of 1 r))) (person_in (kind_in (content (field_of 0 r))) (content (field_of 2 r)))) Bad
+          → cond (eqb cells.count 3) (steps_line_of (kind_at s cells.first) (number_at s cells.second) (person_at s (kind_at s cells.first) cells.third)) None
+          ≡ cond (eqb cells.count 3) (steps_line_of (kind_in (content (field_of 0 r))) (number_in (content (field_of 1 r))) (person_in (kind_in (content (field_of 0 r))) (content (field_of 2 r)))) None
       go true q =
           let n = eqb-true cells.count 3 q in
           rw (q, kind_same, number_same s (field_of 1 r) (h.second (omega arith)), person_same (kind_in (content (field_of 0 r))) n)
@@ -124,22 +122,19 @@ word_kind lapsed = (refl, refl)
 word_kind dark = (refl, refl)
 word_kind ack = (refl, refl)
 
-none_is : {n : ℕ} {A : Type 0} → number.None ≡ number.Is n → A
-none_is e = let z : ◌≡◌ {A = ℕ} 0 1 = cc in absurd (omega arith)
-
-person_told : (k : Kind) (c : List ℕ) {p : ℕ} → person_in k c ≡ number.Is p → PersonSaid k c p
+person_told : (k : Kind) (c : List ℕ) {p : ℕ} → person_in k c ≡ Some p → PersonSaid k c p
 unfolding person_in
 person_told k c {p} e = go (names_person k) refl (same_bytes c []) refl
   where
     go : (q : Bool) → names_person k ≡ q → (w : Bool) → same_bytes c [] ≡ w → PersonSaid k c p
     go true q w v = a_person q (read_proper c (rw q at e))
     go false q true v =
-        let z : number.Is 0 ≡ number.Is p = rw (q, v) at e in
+        let z : Some 0 ≡ Some p = rw (q, v) at e in
         let y : 0 ≡ p = cc in
         rw (same_true c [] v, ← y) (nobody q)
-    go false q false v = none_is (rw (q, v) at e)
+    go false q false v = let z : None ≡ Some p = rw (q, v) at e in cc
 
-told_person : {k : Kind} {c : List ℕ} {p : ℕ} → PersonSaid k c p → person_in k c ≡ number.Is p
+told_person : {k : Kind} {c : List ℕ} {p : ℕ} → PersonSaid k c p → person_in k c ≡ Some p
 unfolding person_in same_bytes
 told_person {k} {c} (a_person q n) = rw q (proper_read c n)
 told_person (nobody q) = rw q
@@ -150,58 +145,57 @@ said_is_step says = (word_kind says.word).1
 
 module _ (r : Row) where
   -- a row that is a step says it
-  pub says_line : {step : StepRow} → SaysStep r step → step_from r ≡ Step step.kind step.at step.person
+  pub says_line : {step : StepRow} → SaysStep r step → step_from r ≡ Some step
   unfolding step_from
   says_line h =
       let w = word_kind h.word in
       rw (eq-eqb _ 3 h.three, w.0, proper_read _ h.door, told_person h.person_said, w.1)
 
   -- and a row that says a step is one
-  bad_step : {k : Kind} {d p : ℕ} {A : Type 0} → Bad ≡ Step k d p → A
-  bad_step e = let z : ◌≡◌ {A = ℕ} 0 1 = cc in absurd (omega arith)
-
-  pub line_says : {k : Kind} {d p : ℕ} → step_from r ≡ Step k d p → SaysStep r (record { kind = k; at = d; person = p })
+  pub line_says : {step : StepRow} → step_from r ≡ Some step → SaysStep r step
   unfolding step_from
-  line_says {k} {d} {p} e =
+  line_says {step} e =
       go (eqb (length (fields r)) 3) refl (number_in (content (field_of 1 r))) refl (person_in (kind_in (content (field_of 0 r))) (content (field_of 2 r))) refl
       (is_step (kind_in (content (field_of 0 r)))) refl
     where
-      go : (q : Bool) → eqb (length (fields r)) 3 ≡ q → (x : Number) → number_in (content (field_of 1 r)) ≡ x
-          → (y : Number) → person_in (kind_in (content (field_of 0 r))) (content (field_of 2 r)) ≡ y
-          → (u : Bool) → is_step (kind_in (content (field_of 0 r))) ≡ u → SaysStep r (record { kind = k; at = d; person = p })
-      go false q x m y n u v = bad_step (rw q at e)
-      go true q number.None m y n u v = bad_step (rw (q, m) at e)
-      go true q (number.Is x) m number.None n u v = bad_step (rw (q, m, n) at e)
-      go true q (number.Is x) m (number.Is y) n false v = bad_step (rw (q, m, n, v) at e)
-      go true q (number.Is x) m (number.Is y) n true v =
-          let z : Step (kind_in (content (field_of 0 r))) x y ≡ Step k d p = rw (q, m, n, v) at e in
-          let zk : kind_in (content (field_of 0 r)) ≡ k = cc in
-          let zd : x ≡ d = cc in
-          let zp : y ≡ p = cc in
+      go : (q : Bool) → eqb (length (fields r)) 3 ≡ q → (x : Option ℕ) → number_in (content (field_of 1 r)) ≡ x
+          → (y : Option ℕ) → person_in (kind_in (content (field_of 0 r))) (content (field_of 2 r)) ≡ y
+          → (u : Bool) → is_step (kind_in (content (field_of 0 r))) ≡ u → SaysStep r step
+      go false q x m y n u v = let z : None ≡ Some step = rw q at e in cc
+      go true q None m y n u v = let z : None ≡ Some step = rw (q, m) at e in cc
+      go true q (Some x) m None n u v = let z : None ≡ Some step = rw (q, m, n) at e in cc
+      go true q (Some x) m (Some y) n false v = let z : None ≡ Some step = rw (q, m, n, v) at e in cc
+      go true q (Some x) m (Some y) n true v =
+          let said : StepRow = record { kind = kind_in (content (field_of 0 r)); at = x; person = y } in
+          let z : Some said ≡ Some step = rw (q, m, n, v) at e in
+          let same : said ≡ step = cc in
+          let zk : kind_in (content (field_of 0 r)) ≡ step.kind = ap (λ (t : StepRow). t.kind) same in
+          let zd : x ≡ step.at = ap (λ (t : StepRow). t.at) same in
+          let zp : y ≡ step.person = ap (λ (t : StepRow). t.person) same in
           record {
             three = eqb-true _ 3 q;
             word = rw zk at (kind_word (content (field_of 0 r)) v);
             door = read_proper _ (rw zd at m);
-            person_said = person_told k _ (rw (zk, zp) at n);
+            person_said = person_told step.kind _ (rw (zk, zp) at n);
           }
 
   -- a row of bad form says so, and no other
-  pub bad_line : BadForm r → step_from r ≡ Bad
+  pub bad_line : BadForm r → step_from r ≡ None
   bad_line bad = go (step_from r) refl
     where
-      go : (line : StepsLine) → step_from r ≡ line → line ≡ Bad
-      go (Step k d p) e = absurd (bad _ (line_says e))
-      go Bad e = refl
+      go : (line : Option StepRow) → step_from r ≡ line → line ≡ None
+      go (Some step) e = absurd (bad step (line_says e))
+      go None e = refl
 
-  pub line_bad : step_from r ≡ Bad → BadForm r
-  line_bad e step h = bad_step (sym e ∙ says_line h)
+  pub line_bad : step_from r ≡ None → BadForm r
+  line_bad e step h = let z : None ≡ Some step = sym e ∙ says_line h in cc
 
 -- a person that is told is a small number, as every number is
-pub person_small : (s : List ℕ) (kind : Kind) (cell : Cell) {n : ℕ} → person_at s kind cell ≡ number.Is n → n < 10 ^ width
+pub person_small : (s : List ℕ) (kind : Kind) (cell : Cell) {n : ℕ} → person_at s kind cell ≡ Some n → n < 10 ^ width
 unfolding person_at
 person_small s kind cell {n} e = go (names_person kind) refl (is_word s cell []) refl
   where
     go : (q : Bool) → names_person kind ≡ q → (w : Bool) → is_word s cell [] ≡ w → n < 10 ^ width
     go true q w v = number_small s cell (rw q at e)
-    go false q true v = let z : number.Is 0 ≡ number.Is n = rw (q, v) at e in let y : 0 ≡ n = cc in omega arith
-    go false q false v = none_is (rw (q, v) at e)
+    go false q true v = let z : Some 0 ≡ Some n = rw (q, v) at e in let y : 0 ≡ n = cc in omega arith
+    go false q false v = let z : None ≡ Some n = rw (q, v) at e in cc

@@ -21,11 +21,9 @@ use Rattle.grammar.proofs.Reading.{cut_there, rows_next}
 use Rattle.grammar.proofs.Unique.{row_unique, no_row_at}
 use Rattle.grammar.proofs.Exact.{cut_is_row, rest_shorter, no_row_end, broken_some, broken_none}
 use Rattle.cell_meaning.proofs.Contents.{words_exact}
-use Rattle.phases.specs.Kinds.{StepRow}
-use Rattle.steps_sheet.specs.declared.StepsLine.{StepsLine}
-use Rattle.steps_sheet.specs.declared.StepsLine.TheVariants.{Step, Bad}
-use Rattle.steps_sheet.specs.declared.Heading.{Heading}
-use Rattle.steps_sheet.specs.declared.Heading.TheVariants.{Rows}
+use Rattle.std.specs.Prelude.{Option, Some, None}
+use Rattle.phases.specs.declared.table.StepRow.{StepRow}
+use Rattle.steps_sheet.specs.Heading.{Heading, Rows}
 use Rattle.steps_sheet.specs.Words.{step_head, door_head, person_head}
 use Rattle.steps_sheet.specs.Says.{Steps, SaysStep, TextSaysSteps, nothing, a_step, bad_row_first, no_row_there, StepsHeaderRow, HeadingSays, too_long, wrong, rows_at}
 use Rattle.steps_sheet.specs.Steps.{steps_line_at, steps_header_at, headed, heading_at, before, steps_in, steps_from}
@@ -38,10 +36,10 @@ abbrev Said : List ℕ → Steps → Type 0
 Said text steps = TextSaysSteps text steps.rows steps.whole
 
 module _ (s : List ℕ) (at : ℕ) where
-  row_turn : {r : Row} {rest : List ℕ} (line : StepsLine) → RowAt (drop at s) r rest → step_from r ≡ line → (steps : Steps) → Said rest steps
+  row_turn : {r : Row} {rest : List ℕ} (line : Option StepRow) → RowAt (drop at s) r rest → step_from r ≡ line → (steps : Steps) → Said rest steps
       → Said (drop at s) (before line steps)
-  row_turn {r} (Step k d p) a e steps more = a_step a (line_says r e) more
-  row_turn {r} Bad a e steps more = bad_row_first a (line_bad r e)
+  row_turn {r} (Some step) a e steps more = a_step a (line_says r e) more
+  row_turn {r} None a e steps more = bad_row_first a (line_bad r e)
 
   turn : (cut : RowCut) → cut_row s at ≡ cut → ((next : ℕ) → at < next → next ≤ length s → Said (drop next s) (steps_from s next))
       → Said (drop at s) (steps_in s (on_row cut (rows_from s)))
@@ -63,11 +61,8 @@ steps_said s at = says_most s (suc (length s - at)) at (omega arith)
 -- a row says one step, so that a text says one list of steps
 step_unique : {r r' : Row} {x y : StepRow} → r ≡ r' → SaysStep r x → SaysStep r' y → x ≡ y
 step_unique {r} {r'} {x} {y} e a b =
-    let z : Step x.kind x.at x.person ≡ Step y.kind y.at y.person = sym (says_line r a) ∙ ap step_from e ∙ says_line r' b in
-    let k : x.kind ≡ y.kind = cc in
-    let d : x.at ≡ y.at = cc in
-    let p : x.person ≡ y.person = cc in
-    λ i. record { kind = k i; at = d i; person = p i }
+    let z : Some x ≡ Some y = sym (says_line r a) ∙ ap step_from e ∙ says_line r' b in
+    cc
 
 pub steps_one_reading : {text text' : List ℕ} {xs ys : List StepRow} {p q : Bool} → TextSaysSteps text xs p → TextSaysSteps text' ys q → text ≡ text'
     → (xs ≡ ys) × (p ≡ q)

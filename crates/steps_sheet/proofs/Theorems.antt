@@ -11,11 +11,11 @@ use Rattle.grammar.specs.declared.cut.Cells.{Cells}
 use Rattle.grammar.specs.Grammar.{Row, RowAt}
 use Rattle.grammar.specs.Where.{RowHolds}
 use Rattle.grammar.proofs.Exact.{rest_is_end, rest_shorter}
-use Rattle.phases.specs.Kinds.{StepRow}
-use Rattle.steps_sheet.specs.declared.StepsLine.TheVariants.{Step, Bad}
+use Rattle.std.specs.Prelude.{Some, None, Ok, Err}
+use Rattle.phases.specs.declared.table.StepRow.{StepRow}
 use Rattle.steps_sheet.specs.declared.Decoded.{Decoded}
-use Rattle.steps_sheet.specs.declared.Heading.{Heading}
-use Rattle.steps_sheet.specs.declared.Heading.TheVariants.{Rows}
+use Rattle.steps_sheet.specs.declared.Unheaded.TheVariants as unheaded
+use Rattle.steps_sheet.specs.Heading.{Heading, TooLong, Wrong, Rows, heading_told}
 use Rattle.steps_sheet.specs.Says.{Steps, SaysStep, BadForm, TextSaysSteps, HeadingSays, rows_at, SheetSays}
 use Rattle.steps_sheet.specs.Steps.{steps_line_at, heading_at, steps_from, SheetReads}
 use Rattle.steps_sheet.specs.Lent.{most_in, decoded_of}
@@ -25,11 +25,11 @@ use Rattle.steps_sheet.proofs.Few as few
 
 module _ (s : List ℕ) {cells : Cells} (r : Row) (h : RowHolds s cells r) where
   -- The cells of a row are read as a step exactly when the row is that step,
-  pub step_exactly : (step : StepRow) → (steps_line_at s cells ≡ Step step.kind step.at step.person) ↔ SaysStep r step
+  pub step_exactly : (step : StepRow) → (steps_line_at s cells ≡ Some step) ↔ SaysStep r step
   step_exactly step = ((λ e. line_says r (sym (step_line_same s r h) ∙ e)), (λ x. step_line_same s r h ∙ says_line r x))
 
   -- and as a row of bad form exactly when it is one.
-  pub bad_exactly : (steps_line_at s cells ≡ Bad) ↔ BadForm r
+  pub bad_exactly : (steps_line_at s cells ≡ None) ↔ BadForm r
   bad_exactly = ((λ e. line_bad r (sym (step_line_same s r h) ∙ e)), (λ x. step_line_same s r h ∙ bad_line r x))
 
 -- A text says one list of steps.
@@ -49,6 +49,22 @@ heading_exactly most s h = (
   (λ e. subst (HeadingSays most s) e (text.heading_says most s)),
   (λ x. text.heading_unique most s (text.heading_says most s) x),
 )
+
+-- And what is told of it says which it is.
+pub rows_told : (h : Heading) {from : ℕ} → Ok from ≡ heading_told h → h ≡ Rows from
+rows_told TooLong e = cc
+rows_told Wrong e = cc
+rows_told (Rows from) e = cc
+
+pub too_long_told : (h : Heading) → Err unheaded.TooLong ≡ heading_told h → h ≡ TooLong
+too_long_told TooLong e = refl
+too_long_told Wrong e = cc
+too_long_told (Rows from) e = cc
+
+pub wrong_told : (h : Heading) → Err unheaded.Wrong ≡ heading_told h → h ≡ Wrong
+wrong_told TooLong e = cc
+wrong_told Wrong e = refl
+wrong_told (Rows from) e = cc
 
 -- A sheet with a header behind which rows begin isn't too long.
 pub headed_short : (most : ℕ) (s : List ℕ) {from : ℕ} → heading_at most s ≡ Rows from → length s ≤ most
@@ -84,8 +100,12 @@ module _ (most : ℕ) (s : List ℕ) (steps : Steps) where
 pub few_steps : (s : List ℕ) (from : ℕ) → length (steps_from s from).rows ≤ most_in (length s)
 few_steps s from = few.steps_few s from
 
--- and no more are counted, with room for them or not
-pub few_counted : (s : List ℕ) (from : ℕ) (room : Bool) {d : Decoded} → d ≡ decoded_of room (steps_from s from) → d.count ≤ most_in (length s)
+-- and no more are counted, where there is room for them
+pub few_counted : (s : List ℕ) (from : ℕ) (room : Bool) {d : Decoded} → Ok d ≡ decoded_of room (steps_from s from) → d.count ≤ most_in (length s)
 unfolding decoded_of
-few_counted s from true e = let n = ap (λ (x : Decoded). x.count) e in let few = few_steps s from in omega arith
-few_counted s from false e = let n = ap (λ (x : Decoded). x.count) e in omega arith
+few_counted s from true {d} e =
+    let is : d ≡ record { count = length (steps_from s from).rows; whole = (steps_from s from).whole } = cc in
+    let n = ap (λ (x : Decoded). x.count) is in
+    let few = few_steps s from in
+    omega arith
+few_counted s from false e = let z : ◌≡◌ {A = ℕ} 0 1 = cc in absurd (omega arith)

@@ -1,10 +1,12 @@
 -- The steps of a sheet in lent lists: the number of each, its door and its person. 13: "list lent .. is shorter".
-use Rattle.std.specs.Prelude.{ℕ, ◌+◌, ◌/◌, Bool, false, cond, List, map, length, leb}
+use Rattle.std.specs.Prelude.{ℕ, ◌+◌, ◌/◌, Bool, cond, List, map, length, leb, Result, Ok, Err}
 use Rattle.std.proofs.lemmas.List.Edits.{sets}
 use Rattle.tables.specs.Tables.{and_also}
 use Rattle.grammar.specs.Sizes.{limit}
-use Rattle.phases.specs.declared.answer.Answer.TheVariants.{Done, TooShort}
-use Rattle.phases.specs.Kinds.{StepRow, number_of_kind}
+use Rattle.findings.specs.declared.TooShort.{TooShort}
+use Rattle.findings.specs.Told.{too_short}
+use Rattle.phases.specs.declared.table.StepRow.{StepRow}
+use Rattle.phases.specs.Kinds.{number_of_kind}
 use Rattle.steps_sheet.specs.declared.Decoded.{Decoded}
 use Rattle.steps_sheet.specs.Says.{Steps}
 use Rattle.steps_sheet.specs.Steps.{steps_from}
@@ -45,10 +47,8 @@ abbrev pub persons_in : Steps → List ℕ
 persons_in steps = map person_column steps.rows
 
 -- What is answered: how many steps there are, and whether the sheet ends behind them; 13 where a lent list is too short.
-unfoldable pub decoded_of : Bool → Steps → Decoded
-decoded_of room steps =
-    cond room (record { answer = Done; count = length steps.rows; whole = steps.whole })
-    (record { answer = TooShort; count = 0; whole = false })
+unfoldable pub decoded_of : Bool → Steps → Result Decoded TooShort
+decoded_of room steps = cond room (Ok (record { count = length steps.rows; whole = steps.whole })) (Err too_short)
 
 -- And what a lent list holds then: the numbers in front, the rest unaltered; "After a refusal .. every lent list hold[s] what [it]
 -- held before."
@@ -56,7 +56,7 @@ unfoldable pub listed : Bool → List ℕ → List ℕ → List ℕ
 listed room numbers list = cond room (sets list 0 numbers) list
 
 -- Decoding the rows of a sheet from a position on.
-abbrev pub decoded_in : List ℕ → ℕ → List ℕ → List ℕ → List ℕ → Decoded
+abbrev pub decoded_in : List ℕ → ℕ → List ℕ → List ℕ → List ℕ → Result Decoded TooShort
 decoded_in s from kinds doors persons = decoded_of (steps_room_in s kinds doors persons) (steps_from s from)
 
 abbrev pub kinds_listed : List ℕ → ℕ → List ℕ → List ℕ → List ℕ → List ℕ

@@ -6,9 +6,9 @@ use Rattle.grammar.specs.Where.{field_of}
 use Rattle.cell_meaning.specs.Say.{ProperNumber}
 use Rattle.cell_meaning.specs.Meaning.{Threefold}
 use Rattle.phases.specs.declared.table.Kind.{Kind}
-use Rattle.phases.specs.Kinds.{StepRow, names_person}
-use Rattle.steps_sheet.specs.declared.Heading.{Heading}
-use Rattle.steps_sheet.specs.declared.Heading.TheVariants.{TooLong, Wrong, Rows}
+use Rattle.phases.specs.declared.table.StepRow.{StepRow}
+use Rattle.phases.specs.Kinds.{names_person}
+use Rattle.steps_sheet.specs.Heading.{Heading, TooLong, Wrong, Rows}
 use Rattle.steps_sheet.specs.Words.{StepWord, step_head, door_head, person_head}
 
 -- "the person is empty except for `card`, where it must be a number"

@@ -1,135 +1,118 @@
 // The stream of two sheets, from their bytes.
-ghost use Rattle.std.specs.Prelude.{◌≡◌, true, ◌≤◌, length};
-ghost use Rattle.record.specs.SoundTest.{sound_b};
-ghost use Rattle.record.specs.Run.{rows_of};
-ghost use Rattle.grammar.specs.Sizes.{limit};
+ghost use Rattle.std.specs.Prelude.{◌≡◌, ◌≤◌, true, length};
 ghost use Rattle.text.specs.Printed.{Prints};
-ghost use Rattle.steps_sheet.specs.Steps.{heading_of, steps_from};
+ghost use Rattle.record.specs.Run.{rows_of};
+ghost use Rattle.record.specs.SoundTest.{sound_b};
 ghost use Rattle.steps_sheet.specs.Lent.{most_steps};
+ghost use Rattle.steps_sheet.specs.Steps.{steps_from, heading_of};
 ghost use Rattle.syslog.specs.Line.{stream_of};
+ghost use Rattle.stream_text.specs.Rows.{stream_from};
 ghost use Rattle.stream_text.specs.Stream.{line_events_in, steps_events, events_text};
-ghost use Rattle.stream_text.specs.Rows.{Heard, stream_from};
 
-use crate::blank::{blank_bytes, blank_held, blank_numbers};
-use crate::rows::put_events;
-use findings::Printed;
-use numbers::Paper;
+use crate::rows::{Columns, put_events};
+use findings::TooShort;
 use record::record::Record;
+use run_text::serve::Run;
 use site::read_site;
-use steps::{decode, heading_of};
-use steps_sheet::Heading;
+use steps::{MOST_STEPS, decode, heading_of};
+use text::print::print;
 
-// The stream of a run, if it fits.
-fn print_events<'a>(
+// The steps of a sheet, as lists with an entry for each step.
+#[derive(Clone, Copy)]
+struct Steps<'a> {
     kinds: &'a [u8],
     doors: &'a [u16],
     persons: &'a [u16],
-    answers: &'a [u8],
-    phases: &'a [u8],
-    reasons: &'a [u8],
-    held: &'a [usize],
-    out: &'a mut [u8],
-) -> Printed
-    requires { Heard kinds.now doors.now persons.now answers.now phases.now reasons.now held.now }
-    ensures { Prints (stream_from kinds.now doors.now persons.now answers.now phases.now reasons.now held.now) out.old result out.new }
-{
-    let length = put_events(
-        kinds,
-        doors,
-        persons,
-        answers,
-        phases,
-        reasons,
-        held,
-        &mut out[..0],
-    );
-    if out.len() < length {
-        return Printed::TooShort;
-    }
-    Printed::Text(put_events(kinds, doors, persons, answers, phases, reasons, held, out))
+    ghost few: { length kinds.now ≤ most_steps },
+    ghost doors_long: { length doors.now ≡ length kinds.now },
+    ghost persons_long: { length persons.now ≡ length kinds.now },
 }
 
-// Runs the steps of three lists from a record and prints their events.
-fn print_run<'a>(
-    fresh: Record,
-    kinds: &'a [u8],
-    doors: &'a [u16],
-    persons: &'a [u16],
-    out: &'a mut [u8],
-) -> Printed
-    requires fresh_value { sound_b fresh ≡ true }
-    requires kinds_len_bound { (length kinds.now ≤ most_steps) × (length doors.now ≡ length kinds.now) × (length persons.now ≡ length kinds.now) }
-    ensures { Prints (stream_of (line_events_in fresh (rows_of kinds.now doors.now persons.now))) out.old result out.new }
+// The stream of a run, if it fits.
+fn print_events(run: Columns<'_>, out: &mut [u8]) -> Result<usize, TooShort>
+    ensures { Prints (stream_from run.entry.kinds.now run.entry.doors.now run.entry.persons.now run.entry.answers.now run.entry.phases.now run.entry.reasons.now run.entry.held.now) out.old result out.new }
 {
-    let mut answers = blank_bytes();
-    let mut phases = blank_bytes();
-    let mut reasons = blank_bytes();
-    let mut held = blank_held();
+    print(|list| put_events(run, list), out)
+}
+
+// Runs steps from a record and prints their events.
+fn print_run(fresh: Record, steps: Steps<'_>, out: &mut [u8]) -> Result<usize, TooShort>
+    requires { sound_b fresh ≡ true }
+    ensures { Prints (stream_of (line_events_in fresh (rows_of steps.entry.kinds.now steps.entry.doors.now steps.entry.persons.now))) out.old result out.new }
+{
+    let mut answers = [0; MOST_STEPS];
+    let mut phases = [0; MOST_STEPS];
+    let mut reasons = [0; MOST_STEPS];
+    let mut held = [0; MOST_STEPS];
     let _ran = step_list::run(
         fresh,
-        kinds,
-        doors,
-        persons,
+        steps.kinds,
+        steps.doors,
+        steps.persons,
         &mut answers,
         &mut phases,
         &mut reasons,
         &mut held,
     );
-    let count = kinds.len();
-    print_events(
-        kinds,
-        doors,
-        persons,
-        &answers[..count],
-        &phases[..count],
-        &reasons[..count],
-        &held[..count],
-        out,
-    )
+    let count = steps.kinds.len();
+    let run = Columns {
+        kinds: steps.kinds,
+        doors: steps.doors,
+        persons: steps.persons,
+        answers: &answers[..count],
+        phases: &phases[..count],
+        reasons: &reasons[..count],
+        held: &held[..count],
+    };
+    print_events(run, out)
 }
 
-// Runs the rows of a steps sheet from a position on and prints their events.
-fn print_steps<'a>(fresh: Record, s: &'a [u8], from: usize, out: &'a mut [u8]) -> Printed
-    requires fresh_value { sound_b fresh ≡ true }
-    requires s_len_bound { length s.now ≤ limit }
-    ensures { Prints (stream_of (line_events_in fresh (steps_from s.now from).rows)) out.old result out.new }
+// Runs the rows of a steps sheet and prints their events.
+fn print_steps(run: &Run<'_>, out: &mut [u8]) -> Result<usize, TooShort>
+    ensures { Prints (stream_of (line_events_in run.now.fresh (steps_from run.now.sheet.now run.now.from).rows)) out.old result out.new }
 {
-    let mut kinds = blank_bytes();
-    let mut doors = blank_numbers();
-    let mut persons = blank_numbers();
-    let decoded = decode(s, from, &mut kinds, &mut doors, &mut persons);
+    let mut kinds = [0; MOST_STEPS];
+    let mut doors = [0; MOST_STEPS];
+    let mut persons = [0; MOST_STEPS];
+    let Ok(decoded) = decode(run.sheet, run.from, &mut kinds, &mut doors, &mut persons) else {
+        unreachable!()
+    };
     let count = decoded.count;
-    print_run(
-        fresh,
-        &kinds[..count],
-        &doors[..count],
-        &persons[..count],
-        out,
-    )
+    let steps = Steps {
+        kinds: &kinds[..count],
+        doors: &doors[..count],
+        persons: &persons[..count],
+    };
+    print_run(run.fresh, steps, out)
 }
 
 // A steps sheet, run from the record of a site; nothing is printed where it can't be run.
-fn print_headed<'a>(fresh: Record, steps: &'a [u8], out: &'a mut [u8]) -> Printed
+// As in crate `run`, a clause only up to where a `Run` is made.
+fn print_headed(fresh: Record, steps: &[u8], out: &mut [u8]) -> Result<usize, TooShort>
     requires { sound_b fresh ≡ true }
     ensures { Prints (stream_of (steps_events fresh steps.now (heading_of steps.now))) out.old result out.new }
 {
-    match heading_of(steps) {
-        Heading::TooLong => Printed::Text(0),
-        Heading::Wrong => Printed::Text(0),
-        Heading::Rows(from) => print_steps(fresh, steps, from, out),
-    }
+    let Ok(from) = heading_of(steps) else {
+        return Ok(0);
+    };
+    let run = Run {
+        fresh,
+        sheet: steps,
+        from,
+    };
+    print_steps(&run, out)
 }
 
 // What `events` prints: the frames of the run's events. Nothing is printed where the site is refused.
-pub fn events_text<'a>(site: &'a [u8], steps: &'a [u8], out: &'a mut [u8]) -> Printed
+pub fn events_text<'a>(
+    site: &'a [u8],
+    steps: &'a [u8],
+    out: &'a mut [u8],
+) -> Result<usize, TooShort>
     ensures { Prints (events_text site.now steps.now) out.old result out.new }
 {
-    let read = read_site(site);
-    let verdict = read.verdict;
-    let number = verdict.number();
-    if number != Paper::DONE {
-        return Printed::Text(0);
+    match read_site(site) {
+        Ok(fresh) => print_headed(fresh, steps, out),
+        Err(_) => Ok(0),
     }
-    let fresh = read.record;
-    print_headed(fresh, steps, out)
 }

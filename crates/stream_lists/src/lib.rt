@@ -1,4 +1,5 @@
 // Lists of zeros that the programs lend: for a stream that is read, for the stream that `events` prints, and for the text of `read-events`.
+// They are not one function of a size, since each promises the size that its list has to have.
 #![tactic(auto)]
 
 ghost use Rattle.std.specs.Prelude.{◌+◌, ◌≡◌, replicate};

@@ -3,15 +3,15 @@
 #![tactic(auto)]
 
 ghost use Rattle.text.specs.Wrote.{Wrote};
-ghost use Rattle.text.specs.Printed.{Prints};
 ghost use Rattle.syslog.specs.Line.{name_of};
-ghost use Rattle.syslog.specs.Rows.{event_row, refused_row, long_rows, PutsEvents, PutsStream, PrintsStream, PrintsEvents};
+ghost use Rattle.syslog.specs.Rows.{event_row, refused_row, long_rows, PutsEvents, PutsStream, PrintsEvents};
 
-use findings::Printed;
+use findings::TooShort;
 use number_rows::put_row;
-use numbers::Paper;
-use syslog::{FrameRead, LineEvent, Msgid};
+use numbers::{Numbered, Paper};
+use syslog::{LineEvent, Msgid};
 use syslog_read::read_frame;
+use text::print::print;
 use text::write::{put, put_bytes, put_number};
 
 // The longest stream that is read.
@@ -56,44 +56,35 @@ fn put_refused(out: &mut [u8], at: usize, number: u8) -> usize
     put_row(out, numbers, 0, &[0, 0, 0])
 }
 
-// A row for each frame of a stream, and one more where something else follows.
-fn put_events<'a>(stream: &'a [u8], out: &'a mut [u8], at: usize) -> usize
+// A row for each frame of a stream, and one more where something else follows. A `loop`, since only a frame tells where the next one
+// begins.
+fn put_events(stream: &[u8], out: &mut [u8], at: usize) -> usize
     ensures { PutsEvents stream.now out.old at out.new result }
 {
     let mut next = at;
     let mut place = 0;
     loop {
         match read_frame(stream, place) {
-            FrameRead::Frame(event, behind) => {
+            Ok(Some((event, behind))) => {
                 next = put_event(out, next, event);
                 place = behind;
             }
-            FrameRead::End => {
+            Ok(None) => {
                 return next;
             }
-            FrameRead::NotOurs => {
-                return put_refused(out, next, Paper::NOT_A_LINE);
+            Err(others) => {
+                return put_refused(out, next, others.number());
             }
         }
     }
 }
 
 // The header, and the rows of a stream.
-fn put_stream<'a>(stream: &'a [u8], out: &'a mut [u8]) -> usize
+fn put_stream(stream: &[u8], out: &mut [u8]) -> usize
     ensures { PutsStream stream.now out.old out.new result }
 {
     let rows = put_bytes(out, 0, b"answer,event,door,person,reason,held\r\n");
     put_events(stream, out, rows)
-}
-
-fn print_stream<'a>(stream: &'a [u8], out: &'a mut [u8]) -> Printed
-    ensures { PrintsStream stream.now out.old result out.new }
-{
-    let length = put_stream(stream, &mut out[..0]);
-    if out.len() < length {
-        return Printed::TooShort;
-    }
-    Printed::Text(put_stream(stream, out))
 }
 
 // The header, and that the stream is too long.
@@ -104,22 +95,12 @@ fn put_long(out: &mut [u8]) -> usize
     put_refused(out, row, Paper::TOO_LONG)
 }
 
-fn print_long(out: &mut [u8]) -> Printed
-    ensures { Prints long_rows out.old result out.new }
-{
-    let length = put_long(&mut out[..0]);
-    if out.len() < length {
-        return Printed::TooShort;
-    }
-    Printed::Text(put_long(out))
-}
-
 // What `read-events` prints.
-pub fn read_events_text<'a>(stream: &'a [u8], out: &'a mut [u8]) -> Printed
+pub fn read_events_text(stream: &[u8], out: &mut [u8]) -> Result<usize, TooShort>
     ensures { PrintsEvents stream.now out.old result out.new }
 {
     if MOST_STREAM < stream.len() {
-        return print_long(out);
+        return print(put_long, out);
     }
-    print_stream(stream, out)
+    print(|list| put_stream(stream, list), out)
 }

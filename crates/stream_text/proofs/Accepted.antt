@@ -5,7 +5,7 @@ use mathlib.Core.List.{List}
 use Rattle.record.specs.declared.record.Record.{Record}
 use Rattle.record.specs.Doors.{plan_of, fresh_record}
 use Rattle.grammar.specs.Sizes.{limit}
-use Rattle.verdict.specs.declared.Verdict.TheVariants.{Accepted}
+use Rattle.verdict.specs.Verdict.{Accepted}
 use Rattle.site_sheet.specs.Site.{site_of}
 use Rattle.site_sheet.proofs.Theorems.{accepted_holds}
 use Rattle.card_by_card.specs.Served.{Fresh}

@@ -5,14 +5,14 @@ use mathlib.Core.List.{List, [], ◌∷◌, map}
 use lib.ListN.{get_or, set, take}
 use Rattle.tables.specs.Tables.{Plan, most_people}
 use Rattle.tables.specs.Zero.{zeros}
-use Rattle.phases.specs.Kinds.{StepRow}
+use Rattle.phases.specs.declared.table.StepRow.{StepRow}
 use Rattle.record.specs.declared.record.Record.{Record}
 use Rattle.record.specs.Run.{last_of}
 use Rattle.record.proofs.Laws.{run_plan}
-use Rattle.verdict.specs.declared.Verdict.TheVariants.{Accepted}
+use Rattle.verdict.specs.Verdict.{Accepted}
 use Rattle.site_sheet.specs.Site.{site_of}
-use Rattle.steps_sheet.specs.declared.Heading.{Heading}
-use Rattle.steps_sheet.specs.declared.Heading.TheVariants.{TooLong, Wrong, Rows}
+use Rattle.steps_sheet.specs.Heading.{Heading}
+use Rattle.steps_sheet.specs.Heading.{TooLong, Wrong, Rows}
 use Rattle.steps_sheet.specs.Steps.{heading_of, steps_from}
 use Rattle.run_events.specs.Events.{What, Grant, Denial, Passage, Lapse, RunEvent}
 use Rattle.card_by_card.specs.Serving.{ends_card, recorded}

@@ -7,7 +7,8 @@ use Rattle.tables.specs.Tables.{or_else, and_also, may_be}
 use Rattle.tables.specs.Zero.{zeros}
 use Rattle.text.specs.Text.{digits, decimal}
 use Rattle.phases.specs.Phase.{grants}
-use Rattle.phases.specs.Kinds.{StepRow, allows}
+use Rattle.phases.specs.declared.table.StepRow.{StepRow}
+use Rattle.phases.specs.Kinds.{allows}
 use Rattle.door_does.specs.Does.{effect}
 use Rattle.granting.specs.Grants.{grants_to, grant_of, has_grant}
 use Rattle.granting.specs.Reasons.{first_reason, held_with}
@@ -16,7 +17,7 @@ use Rattle.record.specs.Steps.{act, sound_step}
 use Rattle.record.specs.Run.{Reply}
 use Rattle.steps_sheet.specs.Says.{Steps}
 use Rattle.steps_sheet.specs.Steps.{heading_of, steps_from}
-use Rattle.steps_sheet.specs.declared.Heading.TheVariants.{Rows}
+use Rattle.steps_sheet.specs.Heading.{Rows}
 use Rattle.run_events.specs.Lines.{lines_of, heard_of}
 use Rattle.run_events.specs.Events.{meaning_by, meaning_of, spell_by, spells_after, no_spells, event_by, events_of}
 use Rattle.run_text.specs.Examples.{site_header, site_sheet, steps_sheet, bad_row}

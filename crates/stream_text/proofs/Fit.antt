@@ -14,7 +14,7 @@ use Rattle.door.specs.Door.{free_door}
 use Rattle.phases.specs.declared.table.Kind.{Kind}
 use Rattle.phases.specs.declared.table.Kind.TheVariants.{Card, Decide, Green, Red, Walk, Tick, Passed, Lapsed, Dark, Ack, Unknown}
 use Rattle.phases.specs.Phase.{keeps}
-use Rattle.phases.specs.Kinds.{StepRow}
+use Rattle.phases.specs.declared.table.StepRow.{StepRow}
 use Rattle.phases.specs.Answers.{reason_none, reason_busy}
 use Rattle.record.specs.declared.record.Record.{Record}
 use Rattle.record.specs.declared.steps.Step.{Step}
@@ -26,8 +26,8 @@ use Rattle.record.proofs.Right.{reason_first, held_first}
 use Rattle.record.proofs.Fresh.{fresh_free}
 use Rattle.record.proofs.Laws.{step_cases, act_done, sound_stays, shaped_stays, plan_stays}
 use Rattle.site_sheet.specs.Site.{site_of, verdict_no}
-use Rattle.steps_sheet.specs.declared.Heading.{Heading}
-use Rattle.steps_sheet.specs.declared.Heading.TheVariants.{TooLong, Wrong, Rows}
+use Rattle.steps_sheet.specs.Heading.{Heading}
+use Rattle.steps_sheet.specs.Heading.{TooLong, Wrong, Rows}
 use Rattle.steps_sheet.specs.Steps.{heading_of}
 use Rattle.run_events.specs.Lines.{heard_of}
 use Rattle.run_events.specs.Events.{What, Grant, Denial, Passage, Lapse, RunEvent, event, Spell, no_spells, events_of}

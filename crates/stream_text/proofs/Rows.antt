@@ -25,18 +25,12 @@ use Rattle.run_events.specs.Lines.{Line, lines_of}
 use Rattle.run_events.specs.Events.{RunEvent, Meaning, Taken, Happened, Freed, Nothing, meaning_by, meaning_of, Spell, spell_by, spells_after, no_spells, event_by, events_of}
 use Rattle.run_events.proofs.Steps.{after_here, after_there}
 use Rattle.run_text.specs.Printed.{replies_from}
-use Rattle.syslog.specs.declared.Msgid.{Msgid}
 use Rattle.syslog.specs.declared.Msgid.TheVariants as msgid
-use Rattle.syslog.specs.declared.LineEvent.{LineEvent}
 use Rattle.syslog.specs.Line.{framed_of, stream_of}
 use Rattle.stream_text.specs.Stream.{line_event}
-use Rattle.stream_text.specs.Rows.{line_with, lines_from, stream_from, Heard, decided_event, told_text, card_by, card_after}
+use Rattle.stream_text.specs.Rows.{line_with, lines_from, stream_from, Heard, line_words, decided_event, told_text, card_by, card_after}
 
 -- ---- what one step writes
-
--- an event in the words of a line
-abbrev pub line_words : Msgid → ℕ → ℕ → ℕ → ℕ → LineEvent
-line_words id d p reason held = record { msgid = id; door = d; person = p; reason = reason; held = held }
 
 -- where there is nothing to write
 pub nothing_written : (text : List ℕ) {out : List ℕ} {at : ℕ} → text ≡ [] → length out ≤ last_place → at ≤ last_place → Wrote out at text out at

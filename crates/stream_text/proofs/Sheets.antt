@@ -1,17 +1,18 @@
 -- Which stream two sheets have, and what is heard of the run of lent lists. Assumes nothing.
 use Prim.Native.Nat.{ℕ, zero, suc, ◌≤◌, ◌<◌}
-use mathlib.Core.Path.{◌≡◌, refl, sym, ap, ◌∙◌}
+use mathlib.Core.Path.{◌≡◌, refl, sym, ap, ◌∙◌, subst}
 use mathlib.Core.Bool.{true}
 use mathlib.Core.List.{List, [], ◌∷◌, map}
 use native.Mathlib.Omega.{arith}
 use borrow.Author.Tests.{ne_eqb, le-leb}
 use lib.Dec.{leb}
 use lib.ListN.{length, get_or, take, length-map}
+use Rattle.std.specs.Prelude.{Ok, Err}
 use Rattle.tables.specs.Tables.{most_doors}
 use Rattle.phases.specs.declared.answer.Answer.{Answer}
 use Rattle.phases.specs.declared.answer.Answer.TheVariants.{Done, NoSuch, NotAllowed, TooShort, Unsound}
 use Rattle.phases.specs.Answers.{answer_no}
-use Rattle.phases.specs.Kinds.{StepRow}
+use Rattle.phases.specs.declared.table.StepRow.{StepRow}
 use Rattle.record.specs.declared.record.Record.{Record}
 use Rattle.record.specs.Doors.{Shaped}
 use Rattle.record.specs.Sound.{Sound}
@@ -19,12 +20,13 @@ use Rattle.record.specs.SoundTest.{sound_b}
 use Rattle.record.specs.Run.{Reply, row_of, rows_of, room_in, telling_of, replies_of, answer_told, phase_told, reason_told, held_told}
 use Rattle.record.proofs.Laws.{done_did, sound_stays, shaped_stays}
 use Rattle.record.proofs.Tells.{sound_tells}
-use Rattle.site_sheet.specs.declared.SiteRead.{SiteRead}
+use Rattle.site_sheet.specs.Site.{SiteRead, site_told}
 use Rattle.site_sheet.specs.Site.{site_of, verdict_no}
-use Rattle.findings.specs.declared.Printed.TheVariants.{Text}
 use Rattle.text.specs.Printed.{fits_in, printed_of, written, Prints}
-use Rattle.steps_sheet.specs.declared.Heading.{Heading}
-use Rattle.steps_sheet.specs.declared.Heading.TheVariants.{TooLong, Wrong}
+use Rattle.steps_sheet.specs.Heading.{Heading, heading_told}
+use Rattle.steps_sheet.specs.Heading as heading
+use Rattle.steps_sheet.specs.declared.Unheaded.{Unheaded}
+use Rattle.steps_sheet.specs.Heading.{TooLong, Wrong}
 use Rattle.steps_sheet.specs.Says.{Steps}
 use Rattle.steps_sheet.specs.Steps.{heading_of}
 use Rattle.run_text.proofs.Serving.{front_of, has_room, ran_told, told_length, parts_back, rows_back, Decodes}
@@ -33,6 +35,10 @@ use Rattle.run_events.specs.Events.{events_in}
 use Rattle.syslog.specs.Line.{stream_of}
 use Rattle.stream_text.specs.Stream.{line_event, line_events_in, steps_events, sheet_events, events_text}
 use Rattle.stream_text.specs.Rows.{stream_from, Heard}
+use Rattle.verdict.specs.declared.SiteRefused.{SiteRefused}
+use Rattle.verdict.specs.Verdict.{Accepted}
+use Rattle.verdict.specs.Numbers.{verdict_no}
+use Rattle.verdict.proofs.Told.{accepted_told, refused_told, refused_not_done}
 
 -- ---- two sheets
 
@@ -60,6 +66,21 @@ module _ (site steps : List ℕ) {read : SiteRead} {n : ℕ} (is : read ≡ site
   unfolding events_text sheet_events
   stream_is z e = rw (number_is, z, e, is)
 
+-- the same by what is handed out of a site sheet: the fresh record,
+module _ (site steps : List ℕ) {fresh : Record} (told : Ok fresh ≡ site_told (site_of site)) where
+  accepted_with : ((site_of site).verdict ≡ Accepted) × ((site_of site).«record» ≡ fresh)
+  accepted_with = accepted_told _ _ told
+
+  pub stream_told : {h : Heading} → heading_of steps ≡ h → stream_of (steps_events fresh steps h) ≡ events_text site steps
+  stream_told {h} e =
+      subst (λ (r : Record). stream_of (steps_events r steps h) ≡ events_text site steps) accepted_with.1
+      (stream_is site steps refl refl (ap verdict_no accepted_with.0) e)
+
+-- or the refusal
+module _ (site steps : List ℕ) {refusal : SiteRefused} (told : Err refusal ≡ site_told (site_of site)) where
+  pub stream_refusal : [] ≡ events_text site steps
+  stream_refusal = stream_refused site steps refl (ap verdict_no (sym (refused_told _ _ told))) (refused_not_done refusal)
+
 -- and so an empty stream
 module _ (r : Record) (steps : List ℕ) where
   pub long_stream : heading_of steps ≡ TooLong → [] ≡ stream_of (steps_events r steps (heading_of steps))
@@ -70,8 +91,14 @@ module _ (r : Record) (steps : List ℕ) where
   unfolding stream_of
   wrong_stream e = rw e
 
+  pub unheaded_stream : (h : Heading) {unheaded : Unheaded} → Err unheaded ≡ heading_told h → [] ≡ stream_of (steps_events r steps h)
+  unfolding stream_of
+  unheaded_stream heading.TooLong e = refl
+  unheaded_stream heading.Wrong e = refl
+  unheaded_stream (heading.Rows from) e = absurd (cc)
+
 -- which is printed into every list
-pub nothing_printed : (text out : List ℕ) → [] ≡ text → Prints text out (Text 0) out
+pub nothing_printed : (text out : List ℕ) → [] ≡ text → Prints text out (Ok 0) out
 unfolding fits_in printed_of written
 nothing_printed text out e =
     let fit : leb 0 (length out) ≡ true = le-leb 0 (length out) (omega arith) in record { answer = rw (← e, fit); list = rw (← e, fit) }

@@ -11,10 +11,10 @@ use mathlib.Core.List.{List, [], map}
 use borrow.Author.Tests.{ne_eqb}
 use lib.Dec.{eqb}
 use lib.ListN.{length}
-use Rattle.verdict.specs.declared.Verdict.TheVariants.{Accepted}
+use Rattle.verdict.specs.Verdict.{Accepted}
 use Rattle.site_sheet.specs.Site.{site_of, verdict_no}
-use Rattle.steps_sheet.specs.declared.Heading.{Heading}
-use Rattle.steps_sheet.specs.declared.Heading.TheVariants.{TooLong, Wrong, Rows}
+use Rattle.steps_sheet.specs.Heading.{Heading}
+use Rattle.steps_sheet.specs.Heading.{TooLong, Wrong, Rows}
 use Rattle.steps_sheet.specs.Steps.{heading_of, steps_from}
 use Rattle.run_text.specs.Printed.{places_text, where_text}
 use Rattle.run_text.proofs.Sheets.{zero_accepted}

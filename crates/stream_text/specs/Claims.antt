@@ -2,13 +2,13 @@
 use Rattle.std.specs.Prelude.{ℕ, ◌≤◌, ◌≡◌, Bool, true, List, [], map, take}
 use Rattle.tables.specs.Tables.{most_people}
 use Rattle.tables.specs.Zero.{zeros}
-use Rattle.phases.specs.Kinds.{StepRow}
+use Rattle.phases.specs.declared.table.StepRow.{StepRow}
 use Rattle.record.specs.declared.record.Record.{Record}
 use Rattle.record.specs.Doors.{Shaped}
 use Rattle.record.specs.Sound.{Sound}
-use Rattle.verdict.specs.declared.Verdict.TheVariants.{Accepted}
+use Rattle.verdict.specs.Verdict.{Accepted}
 use Rattle.site_sheet.specs.Site.{site_of}
-use Rattle.steps_sheet.specs.declared.Heading.TheVariants.{Rows}
+use Rattle.steps_sheet.specs.Heading.{Rows}
 use Rattle.steps_sheet.specs.Steps.{heading_of, steps_from}
 use Rattle.run_events.specs.Lines.{heard_of}
 use Rattle.run_events.specs.Events.{RunEvent, Spell, events_of, events_in}

@@ -9,6 +9,7 @@ use Rattle.record.specs.Run.{rows_of}
 use Rattle.run_events.specs.Lines.{Line, lines_of}
 use Rattle.run_events.specs.Events.{Grant, Denial, event, meaning_of, no_spells, event_by, events_of}
 use Rattle.run_text.specs.Printed.{replies_from}
+use Rattle.syslog.specs.declared.Msgid.{Msgid}
 use Rattle.syslog.specs.declared.LineEvent.{LineEvent}
 use Rattle.syslog.specs.Line.{stream_of}
 use Rattle.stream_text.specs.Stream.{line_event}
@@ -35,6 +36,10 @@ pub record Heard (kinds doors persons answers phases reasons held : List ℕ) : 
   pub reasons_long : length reasons ≡ length kinds
   pub held_long : length held ≡ length kinds
   pub exists : (i : ℕ) → i < length kinds → get_or answers i 0 ≡ done_no → get_or doors i 0 < most_doors
+
+-- an event in the words of a line
+abbrev pub line_words : Msgid → ℕ → ℕ → ℕ → ℕ → LineEvent
+line_words id d p reason held = record { msgid = id; door = d; person = p; reason = reason; held = held }
 
 -- the event of a `decide`: "1 to 2 or 6"
 abbrev pub decided_event : ℕ → ℕ → ℕ → ℕ → ℕ → LineEvent

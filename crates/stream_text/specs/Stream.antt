@@ -2,12 +2,12 @@
 -- grant, denial, passage and lapse the panel writes one [line]".
 use Rattle.std.specs.Prelude.{ℕ, ◌*◌, Bool, true, false, cond, List, [], ◌∷◌, map, get_or, set, eqb}
 use Rattle.numbers.specs.Numbers.{done_no}
-use Rattle.phases.specs.Kinds.{StepRow}
+use Rattle.phases.specs.declared.table.StepRow.{StepRow}
 use Rattle.record.specs.declared.record.Record.{Record}
-use Rattle.site_sheet.specs.declared.SiteRead.{SiteRead}
+use Rattle.site_sheet.specs.Site.{SiteRead}
 use Rattle.site_sheet.specs.Site.{site_of, verdict_no}
-use Rattle.steps_sheet.specs.declared.Heading.{Heading}
-use Rattle.steps_sheet.specs.declared.Heading.TheVariants.{TooLong, Wrong, Rows}
+use Rattle.steps_sheet.specs.Heading.{Heading}
+use Rattle.steps_sheet.specs.Heading.{TooLong, Wrong, Rows}
 use Rattle.steps_sheet.specs.Steps.{heading_of, steps_from}
 use Rattle.steps_sheet.specs.Lent.{most_steps}
 use Rattle.run_events.specs.Events.{What, Grant, Denial, Passage, Lapse, RunEvent, events_in}

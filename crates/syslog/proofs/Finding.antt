@@ -1,25 +1,27 @@
 -- What a list of bytes reads as is found by the guess: where the text isn't the guess's own, no event has it. Assumes nothing.
-use Prim.Native.Nat.{ℕ, ◌+◌, ◌≤◌, ◌<◌}
+use Prim.Native.Nat.{ℕ, ◌+◌, ◌-◌, ◌≤◌, ◌<◌}
 use mathlib.Core.Path.{◌≡◌, refl, sym, ap, subst, ◌∙◌}
 use mathlib.Core.Bool.{Bool, true, false}
 use mathlib.Core.List.{List, [], ◌∷◌, ◌++◌, append_assoc}
 use mathlib.Core.Logic.{◌⊎◌, inl, inr, ⊎_elim}
 use native.Mathlib.Omega.{arith}
+use borrow.Author.Tests.{eqb-false}
+use lib.Dec.{eqb}
 use lib.ListN.{length, take, drop, length-append, length-drop, take-append-drop}
 use lib.Seq.{length-take-le, take-append_seam, drop-append_seam}
+use Rattle.std.specs.Prelude.{Option, Some, None, Result, Ok, Err}
+use Rattle.std.specs.List.{slice_range}
 use Rattle.tables.specs.Tables.{and_also}
 use Rattle.tables.proofs.Cases.{same_or_not, below_or_not}
 use Rattle.tables.proofs.Laws.{clash}
 use Rattle.text.specs.Text.{decimal}
 use Rattle.syslog.specs.declared.LineEvent.{LineEvent}
-use Rattle.syslog.specs.declared.LineRead.{LineRead}
-use Rattle.syslog.specs.declared.LineRead.TheVariants as line
-use Rattle.syslog.specs.declared.FrameRead.{FrameRead}
-use Rattle.syslog.specs.declared.FrameRead.TheVariants as frame
+use Rattle.syslog.specs.declared.NotOurs.{NotOurs}
 use Rattle.syslog.specs.Line.{line_of, framed_of, Fits, fits_line}
-use Rattle.syslog.specs.Reading.{LineIs, ReadsLine, FrameAt, ReadsFrame}
+use Rattle.syslog.specs.Reading.{not_ours, LineIs, ReadsLine, FrameAt, ReadsFrame}
 use Rattle.syslog.specs.Guess.{is_digit, number_from, guess_of, frame_size}
 use Rattle.syslog.proofs.Digits.{Stops, at_byte, number_back}
+use Rattle.syslog.proofs.Loops.{tail_is}
 use Rattle.syslog.proofs.Fit.{fits_tells}
 use Rattle.syslog.proofs.Lengths.{line_short, frame_is}
 use Rattle.syslog.proofs.Guessing.{guess_line, guess_frame}
@@ -30,13 +32,13 @@ use Rattle.syslog.proofs.Guessing.{guess_line, guess_frame}
 line_guess : {text : List ℕ} {e : LineEvent} → LineIs text e → guess_of text ≡ e
 line_guess {text} {e} l = ap guess_of l.is ∙ guess_line e l.fits
 
-pub line_found : {text : List ℕ} {e : LineEvent} → fits_line e ≡ true → text ≡ line_of e → ReadsLine text (line.Is e)
+pub line_found : {text : List ℕ} {e : LineEvent} → fits_line e ≡ true → text ≡ line_of e → ReadsLine text (Ok e)
 line_found {e = e} f is = record { fits = (fits_tells e).yes f; is = is }
 
-pub line_unfit : {text : List ℕ} → fits_line (guess_of text) ≡ false → ReadsLine text line.NotOurs
+pub line_unfit : {text : List ℕ} → fits_line (guess_of text) ≡ false → ReadsLine text (Err not_ours)
 line_unfit {text} f e l = clash ((fits_tells (guess_of text)).back (subst Fits (sym (line_guess l)) l.fits)) f
 
-pub line_other : {text : List ℕ} → (text ≡ line_of (guess_of text) → ⊥) → ReadsLine text line.NotOurs
+pub line_other : {text : List ℕ} → (text ≡ line_of (guess_of text) → ⊥) → ReadsLine text (Err not_ours)
 line_other {text} ne e l = ne (l.is ∙ ap line_of (sym (line_guess l)))
 
 pub line_once : {text : List ℕ} {e f : LineEvent} → LineIs text e → LineIs text f → e ≡ f
@@ -95,7 +97,7 @@ module _ (s : List ℕ) (at : ℕ) (in_it : at < length s) where
   not_end e = omega arith
 
   -- the stream ends before the frame would
-  pub frame_cut : length (drop at s) < frame_size (drop at s) → ReadsFrame s at frame.NotOurs
+  pub frame_cut : length (drop at s) < frame_size (drop at s) → ReadsFrame s at (Err not_ours)
   frame_cut h =
       (not_end, λ e next x. let z = frame_size_lem x in let i = frame_inside x in let d = length-drop at s in omega arith)
 
@@ -103,13 +105,13 @@ module _ (s : List ℕ) (at : ℕ) (in_it : at < length s) where
     abbrev text : List ℕ
     text = take (frame_size (drop at s)) (drop at s)
 
-    pub frame_unfit : fits_line (guess_of text) ≡ false → ReadsFrame s at frame.NotOurs
+    pub frame_unfit : fits_line (guess_of text) ≡ false → ReadsFrame s at (Err not_ours)
     frame_unfit f = (not_end, λ e next x. clash ((fits_tells (guess_of text)).back (subst Fits (sym (frame_guess x)) x.fits)) f)
 
-    pub frame_other : (text ≡ framed_of (guess_of text) → ⊥) → ReadsFrame s at frame.NotOurs
+    pub frame_other : (text ≡ framed_of (guess_of text) → ⊥) → ReadsFrame s at (Err not_ours)
     frame_other ne = (not_end, λ e next x. ne (frame_text x ∙ ap framed_of (sym (frame_guess x))))
 
-    pub frame_found : {e : LineEvent} → fits_line e ≡ true → text ≡ framed_of e → ReadsFrame s at (frame.Frame e (at + frame_size (drop at s)))
+    pub frame_found : {e : LineEvent} → fits_line e ≡ true → text ≡ framed_of e → ReadsFrame s at (Ok (Some (e, at + frame_size (drop at s))))
     frame_found {e} f is =
         let size : length text ≡ frame_size (drop at s) = length-take-le (frame_size (drop at s)) (drop at s) room in
         let there : drop at s ≡ framed_of e ++ drop (frame_size (drop at s)) (drop at s) = sym (take-append-drop (frame_size (drop at s)) (drop at s)) ∙ ap (λ (t : List ℕ). t ++ drop (frame_size (drop at s)) (drop at s)) is in
@@ -122,8 +124,33 @@ module _ (s : List ℕ) (at : ℕ) (in_it : at < length s) where
           behind_it = ap (λ (n : ℕ). at + n) (sym size ∙ ap length is);
         }
 
+-- the same of what is looked up: `rest` lies from the place on and isn't empty, and `size` is the number at its front
+module _ (s rest : List ℕ) (at size : ℕ) (part : rest ≡ take (length s - at) (drop at s)) (adds : length rest + at ≡ length s)
+    (some : false ≡ eqb (length rest) 0) (number : size ≡ number_from rest) where
+  inside : at < length s
+  inside = let o = eqb-false (length rest) 0 (sym some) in omega (arith, o)
+
+  tail : rest ≡ drop at s
+  tail = part ∙ tail_is s at
+
+  pub cut_read : length rest < size + 3 → ReadsFrame s at (Err not_ours)
+  cut_read h = frame_cut s at inside (rw (number, tail) at h)
+
+  module _ (text : List ℕ) (room : size + 3 ≤ length rest) (part_of_it : text ≡ slice_range rest 0 (size + 3)) where
+    is : text ≡ take (size + 3) rest
+    is = part_of_it ∙ ap (λ (n : ℕ). take n rest) (omega arith)
+
+    pub unfit_read : fits_line (guess_of text) ≡ false → ReadsFrame s at (Err not_ours)
+    unfit_read f = frame_unfit s at inside (rw (number, tail) at room) (rw (is, number, tail) at f)
+
+    pub other_read : (text ≡ framed_of (guess_of text) → ⊥) → ReadsFrame s at (Err not_ours)
+    other_read ne = frame_other s at inside (rw (number, tail) at room) (rw (is, number, tail) at ne)
+
+    pub found_read : {e : LineEvent} → fits_line e ≡ true → text ≡ framed_of e → ReadsFrame s at (Ok (Some (e, at + (size + 3))))
+    found_read f same = rw (number, tail) (frame_found s at inside (rw (number, tail) at room) f (rw (is, number, tail) at same))
+
 -- past the end there is no frame
-pub frame_past : {s : List ℕ} {at : ℕ} → length s < at → ReadsFrame s at frame.NotOurs
+pub frame_past : {s : List ℕ} {at : ℕ} → length s < at → ReadsFrame s at (Err not_ours)
 frame_past h = (λ e. omega arith, λ e next x. let o = frame_onward x in omega (arith, o.0, o.1))
 
 -- ---- every list of bytes reads as something
@@ -143,30 +170,30 @@ same_text (x ∷ xs) (y ∷ ys) = go (same_or_not x y) (same_text xs ys)
     go (inl a) (inr b) = inr (λ e. b (ap (drop 1) e))
     go (inr a) b = inr (λ e. a (ap first e))
 
-pub line_reads : (text : List ℕ) → (told : LineRead) × ReadsLine text told
+pub line_reads : (text : List ℕ) → (told : Result LineEvent NotOurs) × ReadsLine text told
 line_reads text = go (fits_line (guess_of text)) refl (same_text text (line_of (guess_of text)))
   where
-    go : (b : Bool) → fits_line (guess_of text) ≡ b → (text ≡ line_of (guess_of text)) ⊎ (text ≡ line_of (guess_of text) → ⊥) → (told : LineRead) × ReadsLine text told
-    go false f same = (line.NotOurs, line_unfit f)
-    go true f (inl is) = (line.Is (guess_of text), line_found f is)
-    go true f (inr ne) = (line.NotOurs, line_other ne)
+    go : (b : Bool) → fits_line (guess_of text) ≡ b → (text ≡ line_of (guess_of text)) ⊎ (text ≡ line_of (guess_of text) → ⊥) → (told : Result LineEvent NotOurs) × ReadsLine text told
+    go false f same = (Err not_ours, line_unfit f)
+    go true f (inl is) = (Ok (guess_of text), line_found f is)
+    go true f (inr ne) = (Err not_ours, line_other ne)
 
-pub frame_reads : (s : List ℕ) (at : ℕ) → (told : FrameRead) × ReadsFrame s at told
-frame_reads s at = ⊎_elim inside (λ h. ⊎_elim (λ e. (frame.End, e)) (λ ne. (frame.NotOurs, (ne, λ e next x. past h (frame_onward x)))) (same_or_not at (length s))) (below_or_not at (length s))
+pub frame_reads : (s : List ℕ) (at : ℕ) → (told : Result (Option (LineEvent × ℕ)) NotOurs) × ReadsFrame s at told
+frame_reads s at = ⊎_elim inside (λ h. ⊎_elim (λ e. (Ok None, e)) (λ ne. (Err not_ours, (ne, λ e next x. past h (frame_onward x)))) (same_or_not at (length s))) (below_or_not at (length s))
   where
     past : {next : ℕ} → length s ≤ at → (at < next) × (next ≤ length s) → ⊥
     past h o = omega (arith, o.0, o.1)
 
-    inside : at < length s → (told : FrameRead) × ReadsFrame s at told
-    inside h = ⊎_elim (λ cut. (frame.NotOurs, frame_cut s at h cut)) whole (below_or_not (length (drop at s)) (frame_size (drop at s)))
+    inside : at < length s → (told : Result (Option (LineEvent × ℕ)) NotOurs) × ReadsFrame s at told
+    inside h = ⊎_elim (λ cut. (Err not_ours, frame_cut s at h cut)) whole (below_or_not (length (drop at s)) (frame_size (drop at s)))
       where
-        whole : frame_size (drop at s) ≤ length (drop at s) → (told : FrameRead) × ReadsFrame s at told
+        whole : frame_size (drop at s) ≤ length (drop at s) → (told : Result (Option (LineEvent × ℕ)) NotOurs) × ReadsFrame s at told
         whole room = go (fits_line (guess_of text)) refl (same_text text (framed_of (guess_of text)))
           where
             text : List ℕ
             text = take (frame_size (drop at s)) (drop at s)
 
-            go : (b : Bool) → fits_line (guess_of text) ≡ b → (text ≡ framed_of (guess_of text)) ⊎ (text ≡ framed_of (guess_of text) → ⊥) → (told : FrameRead) × ReadsFrame s at told
-            go false f same = (frame.NotOurs, frame_unfit s at h room f)
-            go true f (inl is) = (frame.Frame (guess_of text) (at + frame_size (drop at s)), frame_found s at h room f is)
-            go true f (inr ne) = (frame.NotOurs, frame_other s at h room ne)
+            go : (b : Bool) → fits_line (guess_of text) ≡ b → (text ≡ framed_of (guess_of text)) ⊎ (text ≡ framed_of (guess_of text) → ⊥) → (told : Result (Option (LineEvent × ℕ)) NotOurs) × ReadsFrame s at told
+            go false f same = (Err not_ours, frame_unfit s at h room f)
+            go true f (inl is) = (Ok (Some (guess_of text, at + frame_size (drop at s))), frame_found s at h room f is)
+            go true f (inr ne) = (Err not_ours, frame_other s at h room ne)

@@ -7,15 +7,15 @@ use native.Mathlib.Omega.{arith}
 use borrow.Author.Tests.{eqb-true, eqb-false, eq-eqb}
 use lib.Dec.{eqb}
 use lib.ListN.{length}
+use Rattle.std.specs.Prelude.{Err}
 use Rattle.text.specs.Text.{digits, decimal}
 use Rattle.syslog.specs.declared.Msgid.{Msgid}
 use Rattle.syslog.specs.declared.Msgid.TheVariants.{Grant, Deny, Pass, Lapse}
 use Rattle.syslog.specs.declared.LineEvent.{LineEvent}
-use Rattle.syslog.specs.declared.LineRead.TheVariants.{NotOurs}
 use Rattle.syslog.specs.Line.{person_mark, reason_mark, held_mark, held_reason, held_part, reason_part, line_of, head_of, tail_of, ReasonFits}
 use Rattle.syslog.specs.Rfc.{EachByte, no_more, and}
 use Rattle.syslog.specs.Guess.{msgid_in, behind_mark, number_from}
-use Rattle.syslog.specs.Reading.{ReadsLine}
+use Rattle.syslog.specs.Reading.{not_ours, ReadsLine}
 use Rattle.syslog.specs.Claims.{without_held, held_text, EndsInHeld, HeldWithReason3}
 use Rattle.syslog.proofs.Digits.{Stops, at_end, number_back, each_both, each_digit}
 use Rattle.syslog.proofs.Lengths.{head_and_tail}
@@ -54,7 +54,7 @@ unfolding behind_mark
 no_denial m reason held is =
     subst (λ (k : Msgid). ReasonFits k reason → decimal held_reason ≡ behind_mark (reason_part k reason held) → ⊥) is (λ f e. no_end reason held f.1 e)
 
-without_held_lem : (door person : ℕ) → ReadsLine (without_held door person) NotOurs
+without_held_lem : (door person : ℕ) → ReadsLine (without_held door person) (Err not_ours)
 unfolding behind_mark
 without_held_lem door person e l =
     let is = l.is ∙ head_and_tail e in

@@ -1,8 +1,8 @@
 -- What is proved of the crate: `Digits` decimal numbers, digit by digit; `Fit` the test whether an event fits; `Lengths` how long lines
 -- and frames are; `Guessing` that the guess finds the event of a line; `Finding` what bytes read as, by the guess; `Held` that a DENY line
--- with reason 3 has its held door, and no other line; `Streams` frame after frame; `Loops` the loops of the reader; `Rowing` and
--- `RowLengths` the rows of a stream; `Message` that lines and frames are the RFCs'; `Written` what was written; `Theorems` the theorems
--- by name; `Examples` lines byte for byte.
+-- with reason 3 has its held door, and no other line; `Streams` frame after frame; `Loops` what the reader finds in a text; `Rowing` and
+-- `RowLengths` the rows of a stream; `Message` that lines and frames are the RFCs'; `Written` what was written; `Told` the
+-- numbers of what is told; `Theorems` the theorems by name; `Examples` lines byte for byte.
 pub mod Digits
 pub mod Fit
 pub mod Lengths
@@ -15,5 +15,6 @@ pub mod Rowing
 pub mod RowLengths
 pub mod Message
 pub mod Written
+pub mod Told
 pub mod Theorems
 pub mod Examples

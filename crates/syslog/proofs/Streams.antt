@@ -5,36 +5,34 @@ use mathlib.Core.Bool.{Bool, true, false}
 use mathlib.Core.List.{List, [], ◌∷◌, ◌++◌, append_assoc, append-nil}
 use native.Mathlib.Omega.{arith}
 use lib.ListN.{length, length-append}
+use Rattle.std.specs.Prelude.{Option, Some, None, Result, Ok, Err}
 use Rattle.syslog.specs.declared.LineEvent.{LineEvent}
-use Rattle.syslog.specs.declared.LineRead.{LineRead}
-use Rattle.syslog.specs.declared.LineRead.TheVariants as line
-use Rattle.syslog.specs.declared.FrameRead.{FrameRead}
-use Rattle.syslog.specs.declared.FrameRead.TheVariants as frame
+use Rattle.syslog.specs.declared.NotOurs.{NotOurs}
 use Rattle.syslog.specs.Line.{framed_of, stream_of, AllFit, no_more, fits}
 use Rattle.syslog.specs.Reading.{ReadsLine, FrameAt, ReadsFrame, StreamSays, ends, breaks, more, StreamReading}
 use Rattle.syslog.proofs.Finding.{line_once, frame_once, frame_onward, frame_reads}
 
 -- ---- one answer
 
-pub line_told_once : (text : List ℕ) (a b : LineRead) → ReadsLine text a → ReadsLine text b → a ≡ b
-line_told_once text (line.Is e) (line.Is f) x y = ap line.Is (line_once x y)
-line_told_once text (line.Is e) line.NotOurs x y = absurd (y e x)
-line_told_once text line.NotOurs (line.Is f) x y = absurd (x f y)
-line_told_once text line.NotOurs line.NotOurs x y = refl
+pub line_told_once : (text : List ℕ) (a b : Result LineEvent NotOurs) → ReadsLine text a → ReadsLine text b → a ≡ b
+line_told_once text (Ok e) (Ok f) x y = ap Ok (line_once x y)
+line_told_once text (Ok e) (Err others) x y = absurd (y e x)
+line_told_once text (Err others) (Ok f) x y = absurd (x f y)
+line_told_once text (Err these) (Err those) x y = refl
 
 pub no_end : {s : List ℕ} {at : ℕ} {e : LineEvent} {next : ℕ} → FrameAt s at e next → at ≡ length s → ⊥
 no_end x e = let o = frame_onward x in omega (arith, o.0, o.1)
 
-pub frame_told_once : (s : List ℕ) (at : ℕ) (a b : FrameRead) → ReadsFrame s at a → ReadsFrame s at b → a ≡ b
-frame_told_once s at (frame.Frame e n) (frame.Frame f m) x y = let z = frame_once x y in rw (z.0, z.1)
-frame_told_once s at (frame.Frame e n) frame.End x y = absurd (no_end x y)
-frame_told_once s at (frame.Frame e n) frame.NotOurs x y = absurd (y.1 e n x)
-frame_told_once s at frame.End (frame.Frame f m) x y = absurd (no_end y x)
-frame_told_once s at frame.End frame.End x y = refl
-frame_told_once s at frame.End frame.NotOurs x y = absurd (y.0 x)
-frame_told_once s at frame.NotOurs (frame.Frame f m) x y = absurd (x.1 f m y)
-frame_told_once s at frame.NotOurs frame.End x y = absurd (x.0 y)
-frame_told_once s at frame.NotOurs frame.NotOurs x y = refl
+pub frame_told_once : (s : List ℕ) (at : ℕ) (a b : Result (Option (LineEvent × ℕ)) NotOurs) → ReadsFrame s at a → ReadsFrame s at b → a ≡ b
+frame_told_once s at (Ok (Some (e, n))) (Ok (Some (f, m))) x y = let z = frame_once x y in rw (z.0, z.1)
+frame_told_once s at (Ok (Some (e, n))) (Ok None) x y = absurd (no_end x y)
+frame_told_once s at (Ok (Some (e, n))) (Err others) x y = absurd (y.1 e n x)
+frame_told_once s at (Ok None) (Ok (Some (f, m))) x y = absurd (no_end y x)
+frame_told_once s at (Ok None) (Ok None) x y = refl
+frame_told_once s at (Ok None) (Err others) x y = absurd (y.0 x)
+frame_told_once s at (Err others) (Ok (Some (f, m))) x y = absurd (x.1 f m y)
+frame_told_once s at (Err others) (Ok None) x y = absurd (x.0 y)
+frame_told_once s at (Err these) (Err those) x y = refl
 
 -- ---- one reading of a stream
 
@@ -74,10 +72,10 @@ reads_on : (s : List ℕ) (left at : ℕ) → length s - at < left → StreamRea
 reads_on s zero at h = absurd (omega arith)
 reads_on s (suc left) at h = go (frame_reads s at).0 (frame_reads s at).1 (reads_on s left)
   where
-    go : (told : FrameRead) → ReadsFrame s at told → ((next : ℕ) → length s - next < left → StreamReading s next) → StreamReading s at
-    go frame.End x on = record { events = []; whole = true; says = ends x }
-    go frame.NotOurs x on = record { events = []; whole = false; says = breaks x }
-    go (frame.Frame e next) x on =
+    go : (told : Result (Option (LineEvent × ℕ)) NotOurs) → ReadsFrame s at told → ((next : ℕ) → length s - next < left → StreamReading s next) → StreamReading s at
+    go (Ok None) x on = record { events = []; whole = true; says = ends x }
+    go (Err others) x on = record { events = []; whole = false; says = breaks x }
+    go (Ok (Some (e, next))) x on =
         let o = frame_onward x in
         let r = on next (omega (arith, o.0, o.1)) in
         record { events = e ∷ r.events; whole = r.whole; says = more x r.says }

@@ -15,14 +15,12 @@ use Prim.Native.Nat.{ℕ}
 use mathlib.Core.Path.{◌≡◌, refl, sym, subst}
 use mathlib.Core.Bool.{Bool, true}
 use mathlib.Core.List.{List}
+use Rattle.std.specs.Prelude.{Option, Some, None, Result, Ok, Err}
 use Rattle.syslog.specs.declared.LineEvent.{LineEvent}
-use Rattle.syslog.specs.declared.LineRead.{LineRead}
-use Rattle.syslog.specs.declared.LineRead.TheVariants as line
-use Rattle.syslog.specs.declared.FrameRead.{FrameRead}
-use Rattle.syslog.specs.declared.FrameRead.TheVariants as frame
+use Rattle.syslog.specs.declared.NotOurs.{NotOurs}
 use Rattle.syslog.specs.Line.{line_of, stream_of, Fits, AllFit}
 use Rattle.syslog.specs.Rfc.{TcpData}
-use Rattle.syslog.specs.Reading.{LineIs, ReadsLine, ReadsFrame, StreamSays, StreamReading}
+use Rattle.syslog.specs.Reading.{not_ours, LineIs, ReadsLine, ReadsFrame, StreamSays, StreamReading}
 use Rattle.syslog.specs.Claims.{LineIsRfc5424, FrameIsRfc6587, ReadBack, OnlyLinesRead, OnlyFramesRead, HeldWithReason3}
 use Rattle.syslog.proofs.Message.{line_message, frame_frame, stream_data}
 use Rattle.syslog.proofs.Finding.{line_once, line_reads, frame_reads}
@@ -39,24 +37,24 @@ frames_are_rfc6587 = frame_frame
 pub streams_are_tcp_data : (es : List LineEvent) → TcpData (stream_of es)
 streams_are_tcp_data = stream_data
 
-pub only_lines_read : (text : List ℕ) (told : LineRead) → ReadsLine text told → OnlyLinesRead text told
+pub only_lines_read : (text : List ℕ) (told : Result LineEvent NotOurs) → ReadsLine text told → OnlyLinesRead text told
 only_lines_read text told x =
     record {
       event_yes = λ e is. subst (ReadsLine text) is x;
-      event_back = λ e l. line_told_once text told (line.Is e) x l;
+      event_back = λ e l. line_told_once text told (Ok e) x l;
       refused_yes = λ is. subst (ReadsLine text) is x;
-      refused_back = λ none. line_told_once text told line.NotOurs x none;
+      refused_back = λ none. line_told_once text told (Err not_ours) x none;
     }
 
-pub only_frames_read : (s : List ℕ) (at : ℕ) (told : FrameRead) → ReadsFrame s at told → OnlyFramesRead s at told
+pub only_frames_read : (s : List ℕ) (at : ℕ) (told : Result (Option (LineEvent × ℕ)) NotOurs) → ReadsFrame s at told → OnlyFramesRead s at told
 only_frames_read s at told x =
     record {
       event_yes = λ e next is. subst (ReadsFrame s at) is x;
-      event_back = λ e next l. frame_told_once s at told (frame.Frame e next) x l;
+      event_back = λ e next l. frame_told_once s at told (Ok (Some (e, next))) x l;
       end_yes = λ is. subst (ReadsFrame s at) is x;
-      end_back = λ end. frame_told_once s at told frame.End x end;
+      end_back = λ end. frame_told_once s at told (Ok None) x end;
       refused_yes = λ is. subst (ReadsFrame s at) is x;
-      refused_back = λ inside none. frame_told_once s at told frame.NotOurs x (inside, none);
+      refused_back = λ inside none. frame_told_once s at told (Err not_ours) x (inside, none);
     }
 
 pub read_back : (e : LineEvent) → Fits e → ReadBack e
@@ -64,7 +62,7 @@ read_back e f =
     let is : LineIs (line_of e) e = record { fits = f; is = refl } in
     record {
       line_reads = is;
-      line_once = λ told x. line_told_once (line_of e) told (line.Is e) x is;
+      line_once = λ told x. line_told_once (line_of e) told (Ok e) x is;
       line_written = written_line e f;
       frame_written = written_frame e f;
     }
@@ -84,10 +82,10 @@ stream_read_back = stream_back
 pub streams_apart : (es fs : List LineEvent) → AllFit es → AllFit fs → stream_of es ≡ stream_of fs → es ≡ fs
 streams_apart es fs a b same = (says_once (stream_back es a) (subst (λ (s : List ℕ). StreamSays s 0 fs true) (sym same) (stream_back fs b))).0
 
-pub every_line_reads : (text : List ℕ) → (told : LineRead) × ReadsLine text told
+pub every_line_reads : (text : List ℕ) → (told : Result LineEvent NotOurs) × ReadsLine text told
 every_line_reads = line_reads
 
-pub every_frame_reads : (s : List ℕ) (at : ℕ) → (told : FrameRead) × ReadsFrame s at told
+pub every_frame_reads : (s : List ℕ) (at : ℕ) → (told : Result (Option (LineEvent × ℕ)) NotOurs) × ReadsFrame s at told
 every_frame_reads = frame_reads
 
 pub every_stream_reads : (s : List ℕ) → StreamReading s 0

@@ -1,10 +1,9 @@
 -- Lines as the papers have them, byte for byte, and small texts that the RFCs allow and don't.
-use Rattle.std.specs.Prelude.{◌≡◌, List, [], ◌∷◌, ◌++◌, ℕ}
+use Rattle.std.specs.Prelude.{◌≡◌, List, [], ◌∷◌, ◌++◌, ℕ, Err}
 use Rattle.syslog.specs.declared.Msgid.TheVariants.{Grant, Deny, Pass, Lapse}
 use Rattle.syslog.specs.declared.LineEvent.{LineEvent}
-use Rattle.syslog.specs.declared.LineRead.TheVariants.{NotOurs}
 use Rattle.syslog.specs.Line.{line_of, framed_of}
-use Rattle.syslog.specs.Reading.{ReadsLine}
+use Rattle.syslog.specs.Reading.{not_ours, ReadsLine}
 use Rattle.syslog.specs.Rows.{event_row, refused_row}
 use Rattle.syslog.specs.Rfc.{PriVal, Version, Hostname, MsgId, days_of, Timestamp, StructuredData, MsgLen}
 
@@ -47,9 +46,9 @@ pub record LineExamples : Type 0 where
   -- C-12, "DENY lines with reason 3 end in ` held=` and the door": `<85>1 - - - - DENY - door=1 person=0 reason=3 held=42`
   pub held : line_of (record { msgid = Deny; door = 1; person = 0; reason = 3; held = 42 }) ≡ denied10 (51 ∷ held_sign (52 ∷ 50 ∷ []))
   -- "15 without it"; and so with another reason, and with no denial
-  pub without_held_lem : ReadsLine (denied10 (51 ∷ [])) NotOurs
-  pub held_with_1 : ReadsLine (denied10 (49 ∷ held_sign (48 ∷ []))) NotOurs
-  pub held_granted : ReadsLine (line31 ++ held_sign (48 ∷ [])) NotOurs
+  pub without_held_lem : ReadsLine (denied10 (51 ∷ [])) (Err not_ours)
+  pub held_with_1 : ReadsLine (denied10 (49 ∷ held_sign (48 ∷ []))) (Err not_ours)
+  pub held_granted : ReadsLine (line31 ++ held_sign (48 ∷ [])) (Err not_ours)
   -- `<86>1 - - - - PASS - door=0 person=9` and `<86>1 - - - - LAPSE - door=0 person=9`
   pub passage : line_of (record { msgid = Pass; door = 0; person = 9; reason = 0; held = 0 })
       ≡ 60 ∷ 56 ∷ 54 ∷ 62 ∷ nils (80 ∷ 65 ∷ 83 ∷ 83 ∷ at_door_sign (48 ∷ person_sign (57 ∷ [])))

@@ -1,16 +1,16 @@
 -- What `read-events` prints of a stream. The issue of C-11: "header `answer,event,door,person,reason`, then `0,GRANT,3,1,0` for each
 -- frame; at the first place that is no frame of ours `15,,0,0,0` and ends; a longer stream gives `1,,0,0,0` alone." That of C-12:
 -- "`read-events` gains the column `held`", so that each of these has one number more.
-use Rattle.std.specs.Prelude.{ℕ, ◌≤◌, ◌<◌, Bool, true, false, List, [], ◌∷◌, ◌++◌, length}
+use Rattle.std.specs.Prelude.{ℕ, ◌≤◌, ◌<◌, Bool, true, false, List, [], ◌∷◌, ◌++◌, length, Result}
 use Rattle.numbers.specs.Numbers.{done_no, too_long_no, not_aline_no}
 use Rattle.grammar.specs.Grammar.{comma}
-use Rattle.findings.specs.declared.Printed.{Printed}
 use Rattle.text.specs.Text.{decimal, row_of_numbers}
 use Rattle.text.specs.Wrote.{Wrote}
 use Rattle.text.specs.Printed.{Prints}
 use Rattle.syslog.specs.declared.LineEvent.{LineEvent}
 use Rattle.syslog.specs.Line.{name_of}
 use Rattle.syslog.specs.Reading.{StreamSays}
+use Rattle.findings.specs.declared.TooShort.{TooShort}
 
 -- "a stream of at most 524,288 bytes"
 abbrev pub most_stream : ℕ
@@ -54,10 +54,10 @@ pub record PutsEvents (stream before : List ℕ) (at : ℕ) (after : List ℕ) (
 pub record PutsStream (stream before after : List ℕ) (next : ℕ) : Type 0 where
   pub puts : (es : List LineEvent) (whole : Bool) → StreamSays stream 0 es whole → Wrote before 0 (stream_rows es whole) after next
 
-pub record PrintsStream (stream before : List ℕ) (told : Printed) (after : List ℕ) : Type 0 where
+pub record PrintsStream (stream before : List ℕ) (told : Result ℕ TooShort) (after : List ℕ) : Type 0 where
   pub prints : (es : List LineEvent) (whole : Bool) → StreamSays stream 0 es whole → Prints (stream_rows es whole) before told after
 
 -- and of the whole: a long stream is refused
-pub record PrintsEvents (stream before : List ℕ) (told : Printed) (after : List ℕ) : Type 0 where
+pub record PrintsEvents (stream before : List ℕ) (told : Result ℕ TooShort) (after : List ℕ) : Type 0 where
   pub rows : length stream ≤ most_stream → PrintsStream stream before told after
   pub too_long : most_stream < length stream → Prints long_rows before told after

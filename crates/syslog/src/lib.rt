@@ -4,16 +4,17 @@
 // The definitions are in specs/: `Rfc` the grammar of the two RFCs, `Line` our lines and streams, `Lent` a line in a lent list,
 // `Reading` what a list of bytes reads as, `Rows` what `read-events` prints, `Numbers` the answers' numbers, `Guess` how the reader
 // finds an event, `Claims` what the theorems say, `Examples` lines byte for byte. The theorems are in proofs/Theorems.antt. The types
-// are those with which `syslog_write` and `syslog_read` answer.
+// are the event, and why `syslog_write` and `syslog_read` refuse.
 #![tactic(auto)]
 
 ghost use Rattle.std.specs.Prelude.{◌≡◌};
-ghost use Rattle.syslog.specs.Numbers.{written_no, line_read_no, frame_read_no};
+ghost use Rattle.syslog.specs.Numbers.{unwritten_no, not_ours_no, short_line};
 
-use numbers::Paper;
+use findings::TooShort;
+use numbers::{Numbered, Paper};
 
 // What an event is: the MSGID of its line.
-#[derive(Clone, Copy)]
+#[derive(Clone, Copy, PartialEq, Eq)]
 pub enum Msgid {
     // a card is granted
     Grant,
@@ -27,7 +28,7 @@ pub enum Msgid {
 
 // An event: what it is, at which door, the card's person, for a denial its reason, else 0, and for a denial with reason 3 the door
 // that holds the person's grant, else 0.
-#[derive(Clone, Copy)]
+#[derive(Clone, Copy, PartialEq, Eq)]
 pub struct LineEvent {
     pub msgid: Msgid,
     pub door: usize,
@@ -36,72 +37,42 @@ pub struct LineEvent {
     pub held: usize,
 }
 
-// What became of a line or a frame that was to be written.
-#[derive(Clone, Copy)]
-pub enum LineWritten {
-    // so many bytes at the front of the lent list are the text
-    Text(usize),
-    // a door, a person or a held door over 63, a reason that doesn't fit the event, or a held door that doesn't fit the reason; nothing
-    // was written
+// Why a line or a frame isn't written. Then nothing is.
+#[derive(Clone, Copy, PartialEq, Eq)]
+pub enum Unwritten {
+    // 11: a door, a person or a held door over 63, a reason that doesn't fit the event, or a held door that doesn't fit the reason
     Unfit,
-    // the list is shorter than the text, and nothing was written
+    // 13: the list is shorter than the text
     TooShort,
 }
 
-impl LineWritten {
-    // The paper's number.
-    pub fn number(self) -> u8
-        ensures { result ≡ written_no self }
-    {
+impl Numbered for Unwritten {
+    ghost number_of = { unwritten_no };
+
+    fn number(&self) -> u8 {
         match self {
-            LineWritten::Text(_) => Paper::DONE,
-            LineWritten::Unfit => Paper::NO_SUCH,
-            LineWritten::TooShort => Paper::TOO_SHORT,
+            Unwritten::Unfit => Paper::NO_SUCH,
+            Unwritten::TooShort => Paper::TOO_SHORT,
         }
     }
 }
 
-// What a list of bytes reads as.
-#[derive(Clone, Copy)]
-pub enum LineRead {
-    // the line of this event
-    Is(LineEvent),
-    // no line of ours
-    NotOurs,
-}
+impl From<TooShort> for Unwritten {
+    ghost from_gives = { λ short r. r ≡ short_line short };
 
-impl LineRead {
-    // The paper's number.
-    pub fn number(self) -> u8
-        ensures { result ≡ line_read_no self }
-    {
-        match self {
-            LineRead::Is(_) => Paper::DONE,
-            LineRead::NotOurs => Paper::NOT_A_LINE,
-        }
+    fn from(_short: TooShort) -> Self {
+        Unwritten::TooShort
     }
 }
 
-// What begins at a place of a stream.
-#[derive(Clone, Copy)]
-pub enum FrameRead {
-    // the frame of this event, and the place behind it
-    Frame(LineEvent, usize),
-    // nothing: the stream ends there
-    End,
-    // no frame of ours
-    NotOurs,
-}
+// Bytes that are no line of ours, or a place of a stream at which no frame of ours begins, and that isn't its end.
+#[derive(Clone, Copy, PartialEq, Eq)]
+pub struct NotOurs;
 
-impl FrameRead {
-    // The paper's number.
-    pub fn number(self) -> u8
-        ensures { result ≡ frame_read_no self }
-    {
-        match self {
-            FrameRead::Frame(_, _) => Paper::DONE,
-            FrameRead::End => Paper::DONE,
-            FrameRead::NotOurs => Paper::NOT_A_LINE,
-        }
+impl Numbered for NotOurs {
+    ghost number_of = { not_ours_no };
+
+    fn number(&self) -> u8 {
+        Paper::NOT_A_LINE
     }
 }

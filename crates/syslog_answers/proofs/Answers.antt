@@ -9,19 +9,16 @@ use native.Mathlib.Nat.{zero-add}
 use borrow.Author.Tests.{leb-true, leb-false}
 use lib.ListN.{length, drop, replicate}
 use lib.Seq.{sets-eq}
+use Rattle.std.specs.Prelude.{Result, Option, Some, None, Ok, Err}
 use Rattle.numbers.specs.Numbers.{not_aline_no}
 use Rattle.numbers.specs.Telling.{done, ◌unless◌then◌, NumberBy}
 use Rattle.tables.proofs.Cases.{below_or_not}
 use Rattle.tables.proofs.Laws.{clash}
-use Rattle.findings.specs.declared.Printed.{Printed}
 use Rattle.text.specs.Printed.{fits_in, written}
 use Rattle.syslog.specs.declared.LineEvent.{LineEvent}
-use Rattle.syslog.specs.declared.LineWritten.{LineWritten}
-use Rattle.syslog.specs.declared.LineWritten.TheVariants as writing
-use Rattle.syslog.specs.declared.LineRead.{LineRead}
-use Rattle.syslog.specs.declared.LineRead.TheVariants as line
-use Rattle.syslog.specs.declared.FrameRead.{FrameRead}
-use Rattle.syslog.specs.declared.FrameRead.TheVariants as frame
+use Rattle.syslog.specs.declared.Unwritten.{Unwritten}
+use Rattle.syslog.specs.declared.Unwritten.TheVariants as unwritten
+use Rattle.syslog.specs.declared.NotOurs.{NotOurs}
 use Rattle.syslog.specs.Line.{fits_line}
 use Rattle.syslog.specs.Numbers.{written_no, line_read_no, frame_read_no}
 use Rattle.syslog.specs.Lent.{written_of, list_with, Writes}
@@ -35,27 +32,28 @@ use Rattle.syslog.proofs.Theorems.{only_lines_read, only_frames_read, every_line
 use Rattle.sheet_answers.specs.Answers.{TextTells}
 use Rattle.sheet_answers.proofs.Texts.{written_told, text_tells, blank_long, in_blank}
 use Rattle.syslog_answers.specs.Answers.{WrittenHas, a_text, unfit, no_room, LineHas, a_line, no_line, FrameHas, a_frame, at_end, no_frame, WriteTells, SomeLine, SomeFrame, RowsText, rows, too_long, SyslogAnswers}
+use Rattle.findings.specs.declared.TooShort.{TooShort}
 
 -- ---- the numbers
 
-written_has : (w : LineWritten) → WrittenHas w (written_no w)
-written_has (writing.Text n) = a_text n
-written_has writing.Unfit = unfit
-written_has writing.TooShort = no_room
+written_has : (w : Result ℕ Unwritten) → WrittenHas w (written_no w)
+written_has (Ok n) = a_text n
+written_has (Err unwritten.Unfit) = unfit
+written_has (Err unwritten.TooShort) = no_room
 
-line_has : (told : LineRead) → LineHas told (line_read_no told)
-line_has (line.Is e) = a_line e
-line_has line.NotOurs = no_line
+line_has : (told : Result LineEvent NotOurs) → LineHas told (line_read_no told)
+line_has (Ok e) = a_line e
+line_has (Err others) = no_line
 
-frame_has : (told : FrameRead) → FrameHas told (frame_read_no told)
-frame_has (frame.Frame e next) = a_frame e next
-frame_has frame.End = at_end
-frame_has frame.NotOurs = no_frame
+frame_has : (told : Result (Option (LineEvent × ℕ)) NotOurs) → FrameHas told (frame_read_no told)
+frame_has (Ok (Some (e, next))) = a_frame e next
+frame_has (Ok None) = at_end
+frame_has (Err others) = no_frame
 
 -- ---- writing
 
 -- by whether the event fits, and whether there is room for its text
-write_told : {e : LineEvent} {bytes out : List ℕ} {told : LineWritten} {after : List ℕ} → Writes e bytes out told after → WriteTells e bytes out told after
+write_told : {e : LineEvent} {bytes out : List ℕ} {told : Result ℕ Unwritten} {after : List ℕ} → Writes e bytes out told after → WriteTells e bytes out told after
 unfolding written_of list_with fits_in written
 write_told {e} {bytes} {out} w = rw (w.answer, w.list) (go (fits_line e) refl (fits_in bytes out) refl)
   where
@@ -89,15 +87,15 @@ write_told {e} {bytes} {out} w = rw (w.answer, w.list) (go (fits_line e) refl (f
 
 -- ---- reading
 
-line_number : (bytes : List ℕ) (told : LineRead) → ReadsLine bytes told → NumberBy (not_aline_no unless SomeLine bytes then done) (line_read_no told)
-line_number bytes (line.Is e) x = inr ((e, x), refl)
-line_number bytes line.NotOurs x = inl ((λ l. x l.0 l.1), refl)
+line_number : (bytes : List ℕ) (told : Result LineEvent NotOurs) → ReadsLine bytes told → NumberBy (not_aline_no unless SomeLine bytes then done) (line_read_no told)
+line_number bytes (Ok e) x = inr ((e, x), refl)
+line_number bytes (Err others) x = inl ((λ l. x l.0 l.1), refl)
 
-frame_number : (s : List ℕ) (at : ℕ) (told : FrameRead) → ReadsFrame s at told
+frame_number : (s : List ℕ) (at : ℕ) (told : Result (Option (LineEvent × ℕ)) NotOurs) → ReadsFrame s at told
     → NumberBy (not_aline_no unless (at ≡ length s) ⊎ SomeFrame s at then done) (frame_read_no told)
-frame_number s at (frame.Frame e next) x = inr (inr (e, next, x), refl)
-frame_number s at frame.End x = inr (inl x, refl)
-frame_number s at frame.NotOurs x = inl (⊎_elim x.0 (λ l. x.1 l.0 l.1 l.2), refl)
+frame_number s at (Ok (Some (e, next))) x = inr (inr (e, next, x), refl)
+frame_number s at (Ok None) x = inr (inl x, refl)
+frame_number s at (Err others) x = inl (⊎_elim x.0 (λ l. x.1 l.0 l.1 l.2), refl)
 
 -- ---- the rows of a stream
 
@@ -107,7 +105,7 @@ stream_text stream =
     (λ short. let r = every_stream_reads stream in (stream_rows r.events r.whole, rows r.events r.whole short r.says refl))
     (below_or_not most_stream (length stream))
 
-rows_printed : {stream out : List ℕ} {told : Printed} {after : List ℕ} → PrintsEvents stream out told after → (bytes : List ℕ) → RowsText stream bytes
+rows_printed : {stream out : List ℕ} {told : Result ℕ TooShort} {after : List ℕ} → PrintsEvents stream out told after → (bytes : List ℕ) → RowsText stream bytes
     → TextTells bytes out told after
 rows_printed p bytes (rows es whole short says is) = rw is (text_tells ((p.rows short).prints es whole says))
 rows_printed p bytes (too_long long is) = rw is (text_tells (p.too_long long))

@@ -1,21 +1,14 @@
 // Texts that are read: as a line, as a stream from the front on, and as a frame behind the end.
-ghost use Rattle.std.specs.Prelude.{◌≡◌, length};
-
 use crate::write::{print_end, print_next};
+use numbers::Numbered;
 use sheet_files::read_sheet;
 use std::fs::Files;
-use syslog::{FrameRead, LineEvent, LineRead, Msgid};
+use syslog::{LineEvent, Msgid};
 use syslog_read::{read_frame, read_line};
 
 const MOST_BYTES: usize = 160000;
 
 const LF: u8 = 10;
-
-fn blank() -> [u8; MOST_BYTES]
-    ensures { length result ≡ 160000 }
-{
-    [0; MOST_BYTES]
-}
 
 fn print_name(rt: &impl Print, msgid: Msgid) {
     let name = match msgid {
@@ -28,8 +21,7 @@ fn print_name(rt: &impl Print, msgid: Msgid) {
 }
 
 fn print_event(rt: &impl Print, event: LineEvent) {
-    let msgid = event.msgid;
-    print_name(rt, msgid);
+    print_name(rt, event.msgid);
     print_next(rt, event.door);
     print_next(rt, event.person);
     print_next(rt, event.reason);
@@ -45,49 +37,49 @@ fn print_line(rt: &impl Print, text: &[u8]) {
     let _ = rt.write_all(b"line");
     print_next(rt, told.number() as usize);
     match told {
-        LineRead::Is(event) => print_event(rt, event),
-        LineRead::NotOurs => print_none(rt),
+        Ok(event) => print_event(rt, event),
+        Err(_) => print_none(rt),
     }
     print_end(rt);
 }
 
-// A row for the frame at a place, or for the end of the stream; and the place behind a frame, or one past the stream's end where
-// nothing more is read.
-fn print_frame(rt: &impl Print, text: &[u8], at: usize) -> usize {
+// A row for the frame at a place, or for the end of the stream; and the place behind a frame, or none where nothing more is read.
+fn print_frame(rt: &impl Print, text: &[u8], at: usize) -> Option<usize> {
     let told = read_frame(text, at);
     match told {
-        FrameRead::Frame(event, behind) => {
+        Ok(Some((event, behind))) => {
             let _ = rt.write_all(b"frame");
             print_next(rt, told.number() as usize);
             print_event(rt, event);
             print_next(rt, behind);
             print_end(rt);
-            behind
+            Some(behind)
         }
-        FrameRead::End => {
+        Ok(None) => {
             let _ = rt.write_all(b"end");
             print_next(rt, at);
             print_end(rt);
-            MOST_BYTES
+            None
         }
-        FrameRead::NotOurs => {
+        Err(others) => {
             let _ = rt.write_all(b"frame");
-            print_next(rt, told.number() as usize);
+            print_next(rt, others.number() as usize);
             print_none(rt);
             print_next(rt, at);
             print_end(rt);
-            MOST_BYTES
+            None
         }
     }
 }
 
+// A frame has at least a byte.
 fn print_frames(rt: &impl Print, text: &[u8]) {
     let mut at = 0;
-    for _ in 0..MOST_BYTES {
-        if text.len() < at {
+    for _ in 0..=text.len() {
+        let Some(behind) = print_frame(rt, text, at) else {
             return;
-        }
-        at = print_frame(rt, text, at);
+        };
+        at = behind;
     }
 }
 
@@ -98,41 +90,16 @@ fn print_beyond(rt: &impl Print, text: &[u8]) {
     print_end(rt);
 }
 
-// Where a line of the file ends.
-fn line_end(cases: &[u8], from: usize) -> usize {
-    for i in from..cases.len() {
-        if cases[i] == LF {
-            return i;
-        }
-    }
-    cases.len()
-}
-
-fn print_case(rt: &impl Print, cases: &[u8], from: usize, end: usize) {
-    if from <= end {
-        if end <= cases.len() {
-            let text = &cases[from..end];
-            print_line(rt, text);
-            print_frames(rt, text);
-            print_beyond(rt, text);
-        }
-    }
-}
-
-fn print_cases(rt: &impl Print, cases: &[u8]) {
-    let mut from = 0;
-    for _ in 0..MOST_BYTES {
-        if cases.len() <= from {
-            return;
-        }
-        let end = line_end(cases, from);
-        print_case(rt, cases, from, end);
-        from = end.wrapping_add(1);
-    }
+fn print_case(rt: &impl Print, text: &[u8]) {
+    print_line(rt, text);
+    print_frames(rt, text);
+    print_beyond(rt, text);
 }
 
 pub(crate) fn read_cases(rt: &(impl Files + Print + Eprint)) {
-    let mut cases = blank();
+    let mut cases = [0; MOST_BYTES];
     let length = read_sheet(rt, "cases", &mut cases);
-    print_cases(rt, &cases[..length]);
+    for line in cases[..length].split_inclusive(|byte| *byte == LF) {
+        print_case(rt, line.strip_suffix(&[LF]).unwrap_or(line));
+    }
 }

@@ -5,13 +5,13 @@
 // bytes are then compared with the guess's own text, and that decides.
 #![tactic(auto)]
 
-ghost use Rattle.std.specs.Prelude.{◌<◌, ◌≡◌, true};
+ghost use Rattle.std.specs.Prelude.{◌<◌, ◌≤◌, ◌≡◌, ℕ, List, length};
 ghost use Rattle.tables.specs.Below.{Tells};
-ghost use Rattle.syslog.specs.Line.{line_of, framed_of, fits_line};
-ghost use Rattle.syslog.specs.Guess.{msgid_by, msgid_in, behind_mark, is_digit, number_from, guess_of};
+ghost use Rattle.text.specs.Printed.{Puts};
+ghost use Rattle.syslog.specs.Guess.{msgid_by, msgid_in, behind_mark, number_from, guess_of};
 ghost use Rattle.syslog.specs.Reading.{ReadsLine, ReadsFrame};
 
-use syslog::{FrameRead, LineEvent, LineRead, Msgid};
+use syslog::{LineEvent, Msgid, NotOurs};
 use syslog_write::{fits_line, put_frame, put_line};
 
 // How many digits a guess looks at. No number of a line that fits, and no count, has more than two.
@@ -24,56 +24,36 @@ const ROOM: usize = 64;
 const IN_FRONT: usize = 3;
 
 // The MSGID that begins with a letter; GRANT where none does.
+#[tactic(auto, unfolding(syslog::specs::Guess::msgid_by))]
 fn msgid_by(letter: u8) -> Msgid
     ensures { result ≡ msgid_by letter }
 {
-    if letter == b'D' {
-        return Msgid::Deny;
+    match letter {
+        b'D' => Msgid::Deny,
+        b'L' => Msgid::Lapse,
+        b'P' => Msgid::Pass,
+        _ => Msgid::Grant,
     }
-    if letter == b'L' {
-        return Msgid::Lapse;
-    }
-    if letter == b'P' {
-        return Msgid::Pass;
-    }
-    Msgid::Grant
 }
 
 // The MSGID by the first letter of a text. `@` stands in front of the letters.
 fn msgid_in(text: &[u8]) -> Msgid
     ensures { result ≡ msgid_in text.now }
 {
-    let mut i = 0;
-    while i < text.len() {
-        if b'@' < text[i] {
-            return msgid_by(text[i]);
-        }
-        i += 1;
+    match text.iter().find(|byte| b'@' < **byte) {
+        Some(letter) => msgid_by(*letter),
+        None => Msgid::Grant,
     }
-    Msgid::Grant
 }
 
 // What stands behind the first `=`.
 fn behind_mark(text: &[u8]) -> &[u8]
     ensures { result.now ≡ behind_mark text.now }
 {
-    let mut i = 0;
-    while i < text.len() {
-        if text[i] == b'=' {
-            return &text[i + 1..];
-        }
-        i += 1;
+    match text.iter().position(|byte| *byte == b'=') {
+        Some(mark) => &text[mark + 1..],
+        None => &text[..0],
     }
-    &text[..0]
-}
-
-fn is_digit(byte: u8) -> bool
-    ensures { result ≡ is_digit byte }
-{
-    if byte < b'0' {
-        return false;
-    }
-    byte <= b'9'
 }
 
 // The number at the front of a text.
@@ -81,18 +61,12 @@ fn number_from(text: &[u8]) -> usize
     ensures number { result ≡ number_from text.now }
     ensures small { result < 10000 }
 {
-    let mut n: usize = 0;
-    let mut i = 0;
-    while i < MOST_DIGITS {
-        if text.len() <= i {
+    let mut n = 0;
+    for byte in &text[..text.len().min(MOST_DIGITS)] {
+        if !byte.is_ascii_digit() {
             return n;
         }
-        let byte = text[i];
-        if !is_digit(byte) {
-            return n;
-        }
-        n = n * 10 + (byte - b'0') as usize;
-        i += 1;
+        n = n * 10 + (*byte - b'0') as usize;
     }
     n
 }
@@ -115,62 +89,40 @@ fn guess(text: &[u8]) -> LineEvent
     }
 }
 
-// Whether a text is the line of an event.
-fn is_line(text: &[u8], event: LineEvent) -> bool
-    requires { fits_line event ≡ true }
-    ensures { Tells result (text.now ≡ line_of event) }
+// Whether a text is what `put` puts, where that isn't too long.
+fn is_put<F: Fn(&mut [u8]) -> usize>(text: &[u8], put: F) -> bool
+    requires { F.IsAlwaysCallable put }
+    ensures { (own : List ℕ) → length own ≤ 64 → Puts F.Fn put own → Tells result (text.now ≡ own) }
 {
     let mut own = [0; ROOM];
-    let end = put_line(&mut own, 0, event);
-    check::same(text, &own[..end])
-}
-
-// Whether a text is the frame of an event.
-fn is_frame(text: &[u8], event: LineEvent) -> bool
-    requires { fits_line event ≡ true }
-    ensures { Tells result (text.now ≡ framed_of event) }
-{
-    let mut own = [0; ROOM];
-    let end = put_frame(&mut own, 0, event);
-    check::same(text, &own[..end])
+    let end = put(&mut own);
+    end == text.len() && own.starts_with(text)
 }
 
 // Reads a line back from a list that is that line and nothing more; 15 for anything else.
-pub fn read_line(text: &[u8]) -> LineRead
+pub fn read_line(text: &[u8]) -> Result<LineEvent, NotOurs>
     ensures { ReadsLine text.now result }
 {
     let event = guess(text);
-    if !fits_line(event) {
-        return LineRead::NotOurs;
+    if fits_line(event) && is_put(text, |list| put_line(list, 0, event)) {
+        return Ok(event);
     }
-    if !is_line(text, event) {
-        return LineRead::NotOurs;
-    }
-    LineRead::Is(event)
+    Err(NotOurs)
 }
 
 // Reads the frame that begins at a place of a stream, with the place behind it, or that the stream ends there; 15 for anything else.
-pub fn read_frame(stream: &[u8], at: usize) -> FrameRead
+pub fn read_frame(stream: &[u8], at: usize) -> Result<Option<(LineEvent, usize)>, NotOurs>
     ensures { ReadsFrame stream.now at result }
 {
-    if stream.len() < at {
-        return FrameRead::NotOurs;
+    let rest = stream.get(at..).ok_or(NotOurs)?;
+    if rest.is_empty() {
+        return Ok(None);
     }
-    if at == stream.len() {
-        return FrameRead::End;
-    }
-    let rest = &stream[at..];
     let size = number_from(rest) + IN_FRONT;
-    if rest.len() < size {
-        return FrameRead::NotOurs;
-    }
-    let text = &rest[..size];
+    let text = rest.get(..size).ok_or(NotOurs)?;
     let event = guess(text);
-    if !fits_line(event) {
-        return FrameRead::NotOurs;
+    if fits_line(event) && is_put(text, |list| put_frame(list, 0, event)) {
+        return Ok(Some((event, at + size)));
     }
-    if !is_frame(text, event) {
-        return FrameRead::NotOurs;
-    }
-    FrameRead::Frame(event, at + size)
+    Err(NotOurs)
 }

@@ -3,15 +3,14 @@
 // syslog/specs/Line.antt, what is promised in syslog/specs/Lent.antt.
 #![tactic(auto)]
 
-ghost use Rattle.std.specs.Prelude.{◌≡◌, leb};
-ghost use Rattle.tables.specs.Tables.{and_also};
+ghost use Rattle.std.specs.Prelude.{◌≡◌, ℕ, List};
 ghost use Rattle.text.specs.Wrote.{Wrote};
-ghost use Rattle.text.specs.Printed.{Prints};
+ghost use Rattle.text.specs.Printed.{Puts};
 ghost use Rattle.syslog.specs.Line.{held_part, reason_part, line_of, head_of, framed_of, reason_fits, held_fits, fits_line};
-ghost use Rattle.syslog.specs.Lent.{Writes, as_line};
+ghost use Rattle.syslog.specs.Lent.{Writes};
 
-use findings::Printed;
-use syslog::{LineEvent, LineWritten, Msgid};
+use syslog::{LineEvent, Msgid, Unwritten};
+use text::print::print;
 use text::write::{put, put_bytes, put_number};
 
 // The largest door, person and held door of a line.
@@ -46,18 +45,16 @@ fn put_held(out: &mut [u8], at: usize, reason: usize, held: usize) -> usize
 }
 
 // The end of a line: a denial tells its reason, and with reason 3 the held door.
-fn put_reason(out: &mut [u8], at: usize, msgid: Msgid, reason: usize, held: usize) -> usize
-    ensures { Wrote out.old at (reason_part msgid reason held) out.new result }
+fn put_reason(out: &mut [u8], at: usize, event: LineEvent) -> usize
+    ensures { Wrote out.old at (reason_part event.msgid event.reason event.held) out.new result }
 {
-    match msgid {
-        Msgid::Grant => at,
+    match event.msgid {
         Msgid::Deny => {
             let number = put_bytes(out, at, b" reason=");
-            let behind = put_number(out, number, reason);
-            put_held(out, behind, reason, held)
+            let behind = put_number(out, number, event.reason);
+            put_held(out, behind, event.reason, event.held)
         }
-        Msgid::Pass => at,
-        Msgid::Lapse => at,
+        _ => at,
     }
 }
 
@@ -65,12 +62,11 @@ fn put_reason(out: &mut [u8], at: usize, msgid: Msgid, reason: usize, held: usiz
 pub fn put_line(out: &mut [u8], at: usize, event: LineEvent) -> usize
     ensures { Wrote out.old at (line_of event) out.new result }
 {
-    let msgid = event.msgid;
-    let door = put_head(out, at, msgid);
+    let door = put_head(out, at, event.msgid);
     let behind_door = put_number(out, door, event.door);
     let person = put_bytes(out, behind_door, b" person=");
     let behind_person = put_number(out, person, event.person);
-    put_reason(out, behind_person, msgid, event.reason, event.held)
+    put_reason(out, behind_person, event)
 }
 
 // The frame of an event: the count of its line's bytes, a blank and the line.
@@ -83,104 +79,66 @@ pub fn put_frame(out: &mut [u8], at: usize, event: LineEvent) -> usize
     put_line(out, line, event)
 }
 
-// Whether a number is one of the reasons of a denial.
-fn is_reason(reason: usize) -> bool
-    ensures { result ≡ and_also (leb 1 reason) (leb reason 3) }
-{
-    if reason < 1 {
-        return false;
-    }
-    reason <= 3
-}
-
 // Whether a reason fits its event.
+#[tactic(auto, unfolding(syslog::specs::Line::reason_fits, tables::specs::Tables::and_also))]
 fn reason_fits(msgid: Msgid, reason: usize) -> bool
     ensures { result ≡ reason_fits msgid reason }
 {
     match msgid {
-        Msgid::Grant => reason == 0,
-        Msgid::Deny => is_reason(reason),
-        Msgid::Pass => reason == 0,
-        Msgid::Lapse => reason == 0,
+        Msgid::Deny => (1..=HELD_REASON).contains(&reason),
+        _ => reason == 0,
     }
 }
 
 // Whether a held door fits its reason.
+#[tactic(auto, unfolding(syslog::specs::Line::held_fits))]
 fn held_fits(reason: usize, held: usize) -> bool
     ensures { result ≡ held_fits reason held }
 {
     if reason == HELD_REASON {
-        return held <= MOST_NUMBER;
+        held <= MOST_NUMBER
+    } else {
+        held == 0
     }
-    held == 0
 }
 
 // Whether an event has a line.
+#[tactic(auto, unfolding(syslog::specs::Line::fits_line, tables::specs::Tables::and_also))]
 pub fn fits_line(event: LineEvent) -> bool
     ensures { result ≡ fits_line event }
 {
-    if MOST_NUMBER < event.door {
-        return false;
-    }
-    if MOST_NUMBER < event.person {
-        return false;
-    }
-    let msgid = event.msgid;
-    if !reason_fits(msgid, event.reason) {
-        return false;
-    }
-    held_fits(event.reason, event.held)
+    event.door <= MOST_NUMBER
+        && event.person <= MOST_NUMBER
+        && reason_fits(event.msgid, event.reason)
+        && held_fits(event.reason, event.held)
 }
 
-// The line, if the list is long enough for it.
-fn print_line(event: LineEvent, out: &mut [u8]) -> Printed
-    ensures { Prints (line_of event) out.old result out.new }
+// Writes a text of an event, as `put` puts it, into the front of a list, if the event has a line.
+fn write<F: Fn(&mut [u8]) -> usize>(
+    event: LineEvent,
+    put: F,
+    out: &mut [u8],
+) -> Result<usize, Unwritten>
+    requires { F.IsAlwaysCallable put }
+    ensures { (text : List ℕ) → Puts F.Fn put text → Writes event text out.old result out.new }
 {
-    let length = put_line(&mut out[..0], 0, event);
-    if out.len() < length {
-        return Printed::TooShort;
+    if !fits_line(event) {
+        return Err(Unwritten::Unfit);
     }
-    Printed::Text(put_line(out, 0, event))
-}
-
-// The frame, if the list is long enough for it.
-fn print_frame(event: LineEvent, out: &mut [u8]) -> Printed
-    ensures { Prints (framed_of event) out.old result out.new }
-{
-    let length = put_frame(&mut out[..0], 0, event);
-    if out.len() < length {
-        return Printed::TooShort;
-    }
-    Printed::Text(put_frame(out, 0, event))
-}
-
-// What is told of the text of an event that fits.
-fn as_line(printed: Printed) -> LineWritten
-    ensures { result ≡ as_line printed }
-{
-    match printed {
-        Printed::Text(length) => LineWritten::Text(length),
-        Printed::TooShort => LineWritten::TooShort,
-    }
+    Ok(print(put, out)?)
 }
 
 // Writes the line of an event into the front of a list: its length is told, and the rest of the list is unaltered. 11 if the event
 // doesn't fit, then 13 if the list is too short, and nothing is written.
-pub fn write_line(event: LineEvent, out: &mut [u8]) -> LineWritten
+pub fn write_line(event: LineEvent, out: &mut [u8]) -> Result<usize, Unwritten>
     ensures { Writes event (line_of event) out.old result out.new }
 {
-    if !fits_line(event) {
-        return LineWritten::Unfit;
-    }
-    as_line(print_line(event, out))
+    write(event, |list| put_line(list, 0, event), out)
 }
 
 // The same of the frame.
-pub fn write_frame(event: LineEvent, out: &mut [u8]) -> LineWritten
+pub fn write_frame(event: LineEvent, out: &mut [u8]) -> Result<usize, Unwritten>
     ensures { Writes event (framed_of event) out.old result out.new }
 {
-    if !fits_line(event) {
-        return LineWritten::Unfit;
-    }
-    as_line(print_frame(event, out))
+    write(event, |list| put_frame(list, 0, event), out)
 }

@@ -1,10 +1,8 @@
 -- Demand 1 of lists, tables, phases and one door: each field is a public function of the crates `lists`, `rules`, `phases`, `door`, `door_fits`
 -- and `door_does`, and says what follows of the definition that its promise cites. A function that answers no number tells a fact,
 -- exactly where its field has `Tells`, `Answers` or `↔`.
-use Rattle.std.specs.Prelude.{ℕ, ◌-◌, ◌≤◌, ◌<◌, ◌≡◌, Bool, true, false, List, [], ◌∷◌, ◌++◌, ◌⊎◌, ◌↔◌, length, get_or, set, drop}
+use Rattle.std.specs.Prelude.{ℕ, ◌-◌, ◌≤◌, ◌<◌, ◌≡◌, Bool, true, false, List, [], ◌∷◌, ◌++◌, ◌⊎◌, ◌↔◌, length, get_or, set, drop, Some, Ok, Err}
 use Rattle.numbers.specs.Numbers.{done_no, no_such_no, not_allowed_no, too_short_no, unsound_no}
-use Rattle.findings.specs.declared.Found.TheVariants.{At}
-use Rattle.findings.specs.declared.WayTold.TheVariants.{Length, TooShort}
 use Rattle.tables.specs.Tables.{Plan, right_at, may_be, most_locations}
 use Rattle.tables.specs.Below.{Tells, Answers, AnswersPair}
 use Rattle.tables.specs.Rules.{PlanInRange, FirstLocation, ExitDoor, ExitRight, Lawful}
@@ -24,6 +22,7 @@ use Rattle.door_does.specs.Does.{effect}
 use Rattle.phases.specs.Kinds.{kind_of, number_of_kind, allows}
 use Rattle.phases.specs.Table.{asked}
 use Rattle.numbers.specs.Telling.{OneOf}
+use Rattle.findings.specs.Told.{too_short}
 
 -- ---- crate `lists`
 
@@ -50,8 +49,8 @@ pub record TablesAnswers : Type 0 where
 
 -- 13: "list lent for a way out is shorter than the way"; else its length is told, and it stands in front, the rest unaltered
 pub record WayTells (way list : List ℕ) : Type 0 where
-  pub short : length list < length way → (way_told_in way list ≡ TooShort) × (way_written_in way list ≡ list)
-  pub room : length way ≤ length list → (way_told_in way list ≡ Length (length way)) × (way_written_in way list ≡ way ++ drop (length way) list)
+  pub short : length list < length way → (way_told_in way list ≡ Err too_short) × (way_written_in way list ≡ list)
+  pub room : length way ≤ length list → (way_told_in way list ≡ Ok (length way)) × (way_written_in way list ≡ way ++ drop (length way) list)
   pub most : length way ≤ most_locations - 1
 
 -- a test tells its rule, and a search answers none exactly when the rule holds, and else its smallest offender (`Answers` of `tables`)
@@ -62,7 +61,7 @@ pub record RulesAnswers : Type 0 where
   pub first_no_exit_lem : (locations : ℕ) (given : List Bool) → Answers (first_no_exit locations given) (λ l. 1 ≤ l → get_or given l false ≡ true) locations
   -- so where the exits are in range; elsewhere too a location that is told is there
   pub first_stray_lem : (locations : ℕ) (exit : List ℕ)
-      → ((l : ℕ) → first_stray locations exit ≡ At l → l < locations)
+      → ((l : ℕ) → first_stray locations exit ≡ Some l → l < locations)
       × (1 ≤ locations → locations ≤ most_locations → ((l : ℕ) → l < locations → get_or exit l 0 < locations)
       → Answers (first_stray locations exit) (LeadsOut exit) locations)
   pub first_no_door_lem : (site : Plan) → Answers (first_no_door site) (ExitDoor site) site.locations

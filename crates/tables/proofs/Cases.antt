@@ -1,13 +1,12 @@
 -- Cases that every proof here goes by. Assumes nothing.
 use Prim.Native.Nat.{ℕ, ◌<◌, ◌≤◌}
-use mathlib.Core.Path.{◌≡◌, refl}
+use mathlib.Core.Path.{◌≡◌, refl, sym, ◌∙◌}
 use mathlib.Core.Bool.{Bool, true, false, not, cond}
 use mathlib.Core.Logic.{◌⊎◌, inl, inr}
 use borrow.Author.Tests.{eqb-true, eqb-false, ltb-true, ltb-false, eq-eqb, ne_eqb, le-leb, lt-leb, lt-ltb, le-ltb, not-true, not-false}
 use borrow.Author.Rules.{rules}
 use lib.Dec.{eqb, ltb, leb}
 use Rattle.tables.specs.Tables.{or_else, and_also}
-use Rattle.tables.proofs.Chain.{and_stop, and_on}
 
 -- what holds of both arms, each under its test, holds of the choice
 pub either : {A : Type 0} (P : A → Type 0) (t : Bool) {x y : A} → (t ≡ true → P x) → (t ≡ false → P y) → P (cond t x y)
@@ -41,15 +40,14 @@ one_of x a b = go (eqb x a) refl
 
 -- ---- a chain of tests, each of which ends the chain where it fails
 
--- x is what the code's call told of y
-module _ (x y z : ℕ) (b : Bool) (is : x ≡ y) where
-  pub chain_differs : (x ≡ z → ⊥) → false ≡ and_also (eqb y z) b
-  unfolding and_also
-  chain_differs ne = rw (← is, ne_eqb x z ne)
+-- r is what a call answered
+pub and_stop : (a b r : Bool) → r ≡ a → not r ≡ true → false ≡ and_also a b
+unfolding and_also
+and_stop a b r e q = rw (sym e ∙ not-true r q)
 
-  pub chain_equal : (v : Bool) → x ≡ z → v ≡ b → v ≡ and_also (eqb y z) b
-  unfolding and_also
-  chain_equal v e q = rw (← is, eq-eqb x z e) q
+pub and_on : (a b r x : Bool) → r ≡ a → not r ≡ false → x ≡ b → x ≡ and_also a b
+unfolding and_also
+and_on a b r x e q p = rw (sym e ∙ not-false r q) p
 
 pub chain_above : (x y : ℕ) (b : Bool) → y < x → false ≡ and_also (leb x y) b
 unfolding and_also
@@ -60,8 +58,6 @@ unfolding and_also
 chain_within x y v b h q = rw (le-leb x y h) q
 
 pub ruleset test_chain = (rules, and_stop, and_on, chain_above, chain_within)
-
-pub ruleset chain_told = (test_chain, chain_differs, chain_equal)
 
 -- ---- a choice that a test decides; r is what the code's test told
 

@@ -1,12 +1,12 @@
 -- The laws of what holds below a number (`specs/Below.antt`) and of tests that tell facts, each both ways.
---     all_yes, all_back, some-yes, some_back, some-none, none-some      for all below n, for some below n
+--     all_yes, all_back, some-yes, some_back, none-some      for all below n, for some below n
 --     least-none, none-least, least_at, at_least                        the least below n
 --     may-be-outside, no-right-past                                     location 0 is everybody's; past the locations there is no right
 --     tell-..                                                           tests put together
 --     answers, answers-pair                                             a search answers none or the smallest offender
 -- Assumes nothing.
 use Prim.Native.Nat.{ℕ, zero, suc, ◌≤◌, ◌<◌}
-use mathlib.Core.Path.{◌≡◌, refl, sym, subst, ◌∙◌}
+use mathlib.Core.Path.{ap, ◌≡◌, refl, sym, subst, ◌∙◌}
 use mathlib.Core.Bool.{Bool, true, false, not, cond, true≢false, false≢true}
 use mathlib.Core.Logic.{⊎_elim}
 use mathlib.Core.List.{List}
@@ -14,13 +14,10 @@ use native.Mathlib.Nat.{not-suc-le-zero, eq-or-lt_of_le, le_of_suc-le-suc}
 use native.Mathlib.Omega.{arith}
 use borrow.Author.Tests.{ltb-true, lt-ltb, le-ltb, leb-true, le-leb, eqb-true, eq-eqb, ne_eqb}
 use lib.Dec.{ltb, leb, eqb}
+use Rattle.std.specs.Prelude.{Option, Some, None}
 use Rattle.tables.specs.Tables.{or_else, and_also, may_be, most_locations}
 use Rattle.tables.specs.Below.{all_below, some_below, or_at, least_below, with_location, location_of, least_pair, is_nothing, no_pair}
 use Rattle.tables.specs.Below.{Tells, Answers, SmallestPair, AnswersPair}
-use Rattle.findings.specs.declared.Found.{Found}
-use Rattle.findings.specs.declared.Found.TheVariants as found
-use Rattle.findings.specs.declared.RightFound.{RightFound}
-use Rattle.findings.specs.declared.RightFound.TheVariants as pair
 
 -- ---- tests
 
@@ -91,30 +88,27 @@ module _ (test : ℕ → Bool) where
       split n k (λ j. test j ≡ true → some_below test (suc n) ≡ true) (or_right (some_below test n) (test n))
       (λ lt p. or_left (some_below test n) (test n) (some_back n k lt p)) h e
 
-  pub some_none : (n : ℕ) → ((k : ℕ) → k < n → test k ≡ false) → some_below test n ≡ false
-  some_none n clear = not_so (some_below test n) (λ e. let r = some_yes n e in clash r.2 (clear r.0 r.1))
-
   pub none_some : (n : ℕ) → some_below test n ≡ false → (k : ℕ) → k < n → test k ≡ false
   none_some n e k h = not_so (test k) (λ p. clash (some_back n k h p) e)
 
   -- ---- the least below n
 
-  pub none_least : (n : ℕ) → ((k : ℕ) → k < n → test k ≡ false) → least_below test n ≡ found.Nothing
+  pub none_least : (n : ℕ) → ((k : ℕ) → k < n → test k ≡ false) → least_below test n ≡ None
   unfolding least_below or_at
   none_least zero clear = refl
   none_least (suc n) clear = rw (none_least n (λ k h. clear k (omega arith)), clear n (omega arith))
 
-  pub at_least : (n k : ℕ) → k < n → test k ≡ true → ((j : ℕ) → j < k → test j ≡ false) → least_below test n ≡ found.At k
+  pub at_least : (n k : ℕ) → k < n → test k ≡ true → ((j : ℕ) → j < k → test j ≡ false) → least_below test n ≡ Some k
   unfolding least_below or_at
   at_least zero k h e before = absurd (not-suc-le-zero h)
   at_least (suc n) k h e before =
-      split n k (λ j. test j ≡ true → ((i : ℕ) → i < j → test i ≡ false) → least_below test (suc n) ≡ found.At j)
+      split n k (λ j. test j ≡ true → ((i : ℕ) → i < j → test i ≡ false) → least_below test (suc n) ≡ Some j)
       (λ here clear. rw (none_least n clear, here)) (λ lt p clear. rw (at_least n k lt p clear)) h e before
 
   -- every search ends in one of the two
   data Outcome (n : ℕ) : Type 0 where
-    none : least_below test n ≡ found.Nothing → ((k : ℕ) → k < n → test k ≡ false) → Outcome n
-    one : (k : ℕ) → least_below test n ≡ found.At k → k < n → test k ≡ true → ((j : ℕ) → j < k → test j ≡ false) → Outcome n
+    none : least_below test n ≡ None → ((k : ℕ) → k < n → test k ≡ false) → Outcome n
+    one : (k : ℕ) → least_below test n ≡ Some k → k < n → test k ≡ true → ((j : ℕ) → j < k → test j ≡ false) → Outcome n
 
   outcome : (n : ℕ) → Outcome n
   outcome zero = none (none_least zero (λ k h. absurd (not-suc-le-zero h))) (λ k h. absurd (not-suc-le-zero h))
@@ -127,14 +121,14 @@ module _ (test : ℕ → Bool) where
           let all : (k : ℕ) → k < suc n → test k ≡ false = λ k h. split n k (λ j. test j ≡ false) q (clear k) h in
           none (none_least (suc n) all) all
 
-  pub least_none : (n : ℕ) → least_below test n ≡ found.Nothing → (k : ℕ) → k < n → test k ≡ false
+  pub least_none : (n : ℕ) → least_below test n ≡ None → (k : ℕ) → k < n → test k ≡ false
   least_none n e = go (outcome n)
     where
       go : Outcome n → (k : ℕ) → k < n → test k ≡ false
       go (none _ clear) j h = clear j h
       go (one k e' _ _ _) j h = let z : ◌≡◌ {A = ℕ} 0 1 = cc in absurd (omega arith)
 
-  pub least_at : (n k : ℕ) → least_below test n ≡ found.At k → (k < n) × (test k ≡ true) × ((j : ℕ) → j < k → test j ≡ false)
+  pub least_at : (n k : ℕ) → least_below test n ≡ Some k → (k < n) × (test k ≡ true) × ((j : ℕ) → j < k → test j ≡ false)
   least_at n k e = go (outcome n)
     where
       go : Outcome n → (k < n) × (test k ≡ true) × ((j : ℕ) → j < k → test j ≡ false)
@@ -274,17 +268,17 @@ answers test Fact n t =
       at_back = λ k s. at_least test n k s.exists (broken (t k s.exists) s.offends) (λ j h. let i = s.exists in breaks (t j (omega arith)) (s.before j h));
     }
 
-pub tell_nothing : (answer : Found) (Fact : ℕ → Type 0) (n : ℕ) → Answers answer Fact n → Tells (is_nothing answer) ((k : ℕ) → k < n → Fact k)
-tell_nothing (found.At i) Fact n a =
+pub tell_nothing : (answer : Option ℕ) (Fact : ℕ → Type 0) (n : ℕ) → Answers answer Fact n → Tells (is_nothing answer) ((k : ℕ) → k < n → Fact k)
+tell_nothing (Some i) Fact n a =
     record { yes = λ e. absurd (false≢true e); back = λ all. let s = a.at_yes i refl in absurd (s.offends (all i s.exists)) }
-tell_nothing found.Nothing Fact n a = record { yes = λ e. a.none_yes refl; back = λ all. refl }
+tell_nothing None Fact n a = record { yes = λ e. a.none_yes refl; back = λ all. refl }
 
 -- ---- the same over pairs
 
 module _ (test : ℕ → ℕ → Bool) (Fact : ℕ → ℕ → Type 0) (n m : ℕ) (t : (p l : ℕ) → Tells (not (test p l)) (Fact p l)) where
   data PairOutcome : Type 0 where
-    none : least_pair test n m ≡ pair.Nothing → ((p : ℕ) → p < n → (l : ℕ) → l < m → Fact p l) → PairOutcome
-    one : (p l : ℕ) → least_pair test n m ≡ pair.At p l → SmallestPair Fact n m p l → PairOutcome
+    none : least_pair test n m ≡ None → ((p : ℕ) → p < n → (l : ℕ) → l < m → Fact p l) → PairOutcome
+    one : (p l : ℕ) → least_pair test n m ≡ Some (p, l) → SmallestPair Fact n m p l → PairOutcome
 
   inner : (p : ℕ) → Answers (least_below (test p) m) (Fact p) m
   inner p = answers (test p) (Fact p) m (λ l h. t p l)
@@ -292,20 +286,20 @@ module _ (test : ℕ → ℕ → Bool) (Fact : ℕ → ℕ → Type 0) (n m : �
   clear_of : (q : ℕ) → some_below (test q) m ≡ false → (j : ℕ) → j < m → Fact q j
   clear_of q e j h = kept (t q j) (none_some (test q) m e j h)
 
-  person_found : (p : ℕ) → least_below (λ q. some_below (test q) m) n ≡ found.At p → (a : Found) → least_below (test p) m ≡ a → PairOutcome
+  person_found : (p : ℕ) → least_below (λ q. some_below (test q) m) n ≡ Some p → (a : Option ℕ) → least_below (test p) m ≡ a → PairOutcome
   unfolding least_pair location_of with_location
-  person_found p e found.Nothing q =
+  person_found p e None q =
       let r = least_at (λ q. some_below (test q) m) n p e in
       let s = some_yes (test p) m r.1 in
       clash s.2 (least_none (test p) m q s.0 s.1)
-  person_found p e (found.At l) q =
+  person_found p e (Some l) q =
       let r = least_at (λ q. some_below (test q) m) n p e in
       one p l (rw (e, q)) (record { person = r.0; before = λ i h. clear_of i (r.2 i h); location = (inner p).at_yes l q })
 
-  pair_outcome : (a : Found) → least_below (λ q. some_below (test q) m) n ≡ a → PairOutcome
+  pair_outcome : (a : Option ℕ) → least_below (λ q. some_below (test q) m) n ≡ a → PairOutcome
   unfolding least_pair location_of
-  pair_outcome found.Nothing e = none (rw e) (λ p h. clear_of p (least_none (λ q. some_below (test q) m) n e p h))
-  pair_outcome (found.At p) e = person_found p e (least_below (test p) m) refl
+  pair_outcome None e = none (rw e) (λ p h. clear_of p (least_none (λ q. some_below (test q) m) n e p h))
+  pair_outcome (Some p) e = person_found p e (least_below (test p) m) refl
 
   same_pair : (p l q j : ℕ) → SmallestPair Fact n m p l → SmallestPair Fact n m q j → (p ≡ q) × (l ≡ j)
   same_pair p l q j s r =
@@ -331,15 +325,15 @@ module _ (test : ℕ → ℕ → Bool) (Fact : ℕ → ℕ → Type 0) (n m : �
           record {
             none_yes = λ q. let z : ◌≡◌ {A = ℕ} 0 1 = cc in absurd (omega arith);
             none_back = λ clear. absurd (s.location.offends (clear p s.person l s.location.exists));
-            at_yes = λ q j r. let a : p ≡ q = cc in let b : l ≡ j = cc in rw (← a, ← b) s;
+            at_yes = λ q j r. let t : ◌≡◌ {A = ℕ × ℕ} (p, l) (q, j) = cc in let a : p ≡ q = ap (λ x. x.0) t in let b : l ≡ j = ap (λ x. x.1) t in rw (← a, ← b) s;
             at_back = λ q j r. let w = same_pair p l q j s r in let a : p ≡ q = w.0 in let b : l ≡ j = w.1 in cc;
           }
 
-pub tell_no_pair : (answer : RightFound) (Fact : ℕ → ℕ → Type 0) (n m : ℕ) → AnswersPair answer Fact n m
+pub tell_no_pair : (answer : Option (ℕ × ℕ)) (Fact : ℕ → ℕ → Type 0) (n m : ℕ) → AnswersPair answer Fact n m
     → Tells (no_pair answer) ((p : ℕ) → p < n → (l : ℕ) → l < m → Fact p l)
-tell_no_pair (pair.At p l) Fact n m a =
+tell_no_pair (Some (p, l)) Fact n m a =
     record {
       yes = λ e. absurd (false≢true e);
       back = λ all. let s = a.at_yes p l refl in absurd (s.location.offends (all p s.person l s.location.exists));
     }
-tell_no_pair pair.Nothing Fact n m a = record { yes = λ e. a.none_yes refl; back = λ all. refl }
+tell_no_pair None Fact n m a = record { yes = λ e. a.none_yes refl; back = λ all. refl }

@@ -1,8 +1,7 @@
--- The laws of `specs/Below.antt`, the loops' invariant, cases and chains of tests, the theorems of the rules and of the way out,
--- and lists of zeros.
+-- The laws of `specs/Below.antt`, what chains over numbers answer, cases and chains of tests, the theorems of the rules and of the way
+-- out, and lists of zeros.
 pub mod Laws
-pub mod Scans
-pub mod Chain
+pub mod Chains
 pub mod Cases
 pub mod Ways
 pub mod Answers

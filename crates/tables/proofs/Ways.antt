@@ -3,6 +3,7 @@
 --     way-length                         it has no more members than there are locations left
 --     way-unique, way-found, way-met     the way of a location is one, and `way_out` finds it where it is short enough
 --     way-short                          a way among n locations has fewer than n members: they are counted
+--     way_laws                           what the functions that measure, write and tell a way go by
 -- Assumes nothing.
 use Prim.Native.Nat.{ℕ, zero, suc, ◌+◌, ◌-◌, ◌≤◌, ◌<◌}
 use mathlib.Core.Path.{◌≡◌, refl, sym, ap, ◌∙◌}
@@ -13,12 +14,13 @@ use native.Mathlib.Nat.{not-suc-le-zero, le_of_suc-le-suc, eq-or-lt_of_le}
 use native.Mathlib.Numerals.{add-one, sub-one}
 use native.Mathlib.Omega.{arith}
 use borrow.Author.Tests.{leb-true, le-leb, lt-leb}
-use lib.ListN.{length, get_or, set, drop}
+use lib.ListN.{length, get_or, set, drop, length-set}
 use lib.Seq.{sets, sets-eq}
 use lib.Dec.{leb}
+use Rattle.std.specs.Prelude.{Ok, Err}
 use Rattle.tables.proofs.Laws.{clash, not_so}
 use Rattle.tables.specs.Way.{Way, outside, onward, unless_outside, way_out, if_room, way_told_in, way_written_in}
-use Rattle.findings.specs.declared.WayTold.TheVariants.{Length, TooShort}
+use Rattle.findings.specs.Told.{too_short}
 
 -- ---- one step
 
@@ -168,14 +170,9 @@ pub way_next : (left : ℕ) (exit : List ℕ) (l m : ℕ) → (left ≡ 0 → �
 way_next zero exit l m h k e = absurd (h refl)
 way_next (suc left) exit l m h k e = rw (sub-one (suc left), way_on left exit l k, e)
 
-pub length_on : (left : ℕ) (exit : List ℕ) (l m r : ℕ) → (left ≡ 0 → ⊥) → (l ≡ 0 → ⊥) → m ≡ get_or exit l 0
-    → r ≡ length (way_out (left - 1) exit m) → r + 1 ≡ length (way_out left exit l)
-length_on left exit l m r h k e q = rw (way_next left exit l m h k e) (omega arith)
-
--- room for the way from a place on is room for its first member and for the rest
-pub room_on : (at left : ℕ) (exit : List ℕ) (l m n : ℕ) → at + length (way_out left exit l) ≤ n → (left ≡ 0 → ⊥) → (l ≡ 0 → ⊥) → m ≡ get_or exit l 0
-    → at + 1 + length (way_out (left - 1) exit m) ≤ n
-room_on at left exit l m n room h k e = let on = length_on left exit l m _ h k e refl in omega arith
+pub length_on : (left : ℕ) (exit : List ℕ) (l : ℕ) → (left ≡ 0 → ⊥) → (l ≡ 0 → ⊥)
+    → length (way_out left exit l) ≡ length (way_out (left - 1) exit (get_or exit l 0)) + 1
+length_on left exit l h k = rw (way_next left exit l (get_or exit l 0) h k refl) (omega arith)
 
 pub write_spent : (list : List ℕ) (at left : ℕ) (exit : List ℕ) (l : ℕ) → left ≡ 0 → list ≡ sets list at (way_out left exit l)
 write_spent list at left exit l e = rw (e, way_spent exit l)
@@ -189,7 +186,7 @@ write_on list at left exit l m after h k e q = rw (way_next left exit l m h k e)
 
 -- what is told and left of the list, where it has room for the way and where it hasn't
 module _ (way list : List ℕ) where
-  pub short_told : length list < length way → TooShort ≡ way_told_in way list
+  pub short_told : length list < length way → Err too_short ≡ way_told_in way list
   unfolding way_told_in if_room
   short_told h = rw (lt-leb (length way) (length list) h)
 
@@ -197,7 +194,7 @@ module _ (way list : List ℕ) where
   unfolding way_written_in if_room
   short_kept h = rw (lt-leb (length way) (length list) h)
 
-  pub room_told : length way ≤ length list → Length (length way) ≡ way_told_in way list
+  pub room_told : length way ≤ length list → Ok (length way) ≡ way_told_in way list
   unfolding way_told_in if_room
   room_told h = rw (le-leb (length way) (length list) h)
 
@@ -207,3 +204,6 @@ module _ (way list : List ℕ) where
       let room : 0 + length way ≤ length list = omega arith in
       let none : 0 + length way ≡ length way = omega arith in
       rw (le-leb (length way) (length list) h) (sets-eq way list 0 room ∙ ap (λ (n : ℕ). way ++ drop n list) none)
+
+-- what the functions that measure, write and tell a way go by
+pub ruleset way_laws = (length_spent, length_outside, length_on, way_length, write_spent, write_outside, write_on, short_told, short_kept, room_told, room_written, length-set)

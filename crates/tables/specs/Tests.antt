@@ -1,11 +1,9 @@
 -- What the code computes of the rules: for each a test that a location, a person or a door breaks it, and the answer, none or
 -- the smallest offender. That the tests tell the rules' facts is proved in `proofs/Answers.antt`.
-use Rattle.std.specs.Prelude.{ℕ, ◌+◌, Bool, false, not, List, get_or, length, ltb, leb, eqb}
+use Rattle.std.specs.Prelude.{ℕ, ◌+◌, Bool, false, not, List, get_or, length, ltb, leb, eqb, Option}
 use Rattle.tables.specs.Tables.{Plan, may_be, and_also, most_locations, most_doors}
 use Rattle.tables.specs.Below.{all_below, some_below, least_below, least_pair, is_nothing, no_pair}
 use Rattle.tables.specs.Way.{unvisited, way_out}
-use Rattle.findings.specs.declared.Found.{Found}
-use Rattle.findings.specs.declared.RightFound.{RightFound}
 
 -- 3: a door is from a location to another one
 unfoldable pub door_in_range : ℕ → List ℕ → List ℕ → ℕ → Bool
@@ -31,14 +29,14 @@ plan_in_range most site =
 unfoldable pub lacks_exit : List Bool → ℕ → Bool
 lacks_exit given l = and_also (ltb 0 l) (not (get_or given l false))
 
-unfoldable pub first_no_exit : ℕ → List Bool → Found
+unfoldable pub first_no_exit : ℕ → List Bool → Option ℕ
 first_no_exit locations given = least_below (lacks_exit given) locations
 
 -- 7: "exits from a location never reach 0": with one step more than there are locations unvisited, the way takes them all
 unfoldable pub strays : ℕ → List ℕ → ℕ → Bool
 strays locations exit l = ltb (unvisited locations) (length (way_out (unvisited locations + 1) exit l))
 
-unfoldable pub first_stray : ℕ → List ℕ → Found
+unfoldable pub first_stray : ℕ → List ℕ → Option ℕ
 first_stray locations exit = least_below (strays locations exit) locations
 
 -- a door is from one location to another
@@ -50,14 +48,14 @@ unfoldable pub lacks_door : ℕ → List ℕ → List ℕ → List ℕ → ℕ �
 lacks_door doors origin destination exit l =
     and_also (ltb 0 l) (not (some_below (joins origin destination l (get_or exit l 0)) doors))
 
-unfoldable pub first_no_door : Plan → Found
+unfoldable pub first_no_door : Plan → Option ℕ
 first_no_door site = least_below (lacks_door site.doors site.origin site.destination site.exit) site.locations
 
 -- 9: "right to l but not to its exit"
 unfoldable pub lacks_right : List ℕ → List Bool → ℕ → ℕ → Bool
 lacks_right exit right p l = and_also (ltb 0 l) (and_also (may_be right p l) (not (may_be right p (get_or exit l 0))))
 
-unfoldable pub first_no_right : Plan → List Bool → RightFound
+unfoldable pub first_no_right : Plan → List Bool → Option (ℕ × ℕ)
 first_no_right site right = least_pair (lacks_right site.exit right) site.people site.locations
 
 -- a door by which the person may come in from outside
@@ -68,7 +66,7 @@ lets_in origin destination right p d = and_also (eqb (get_or origin d 0) 0) (may
 unfoldable pub shut_out : ℕ → List ℕ → List ℕ → List Bool → ℕ → Bool
 shut_out doors origin destination right p = not (some_below (lets_in origin destination right p) doors)
 
-unfoldable pub first_shut_out : Plan → List Bool → Found
+unfoldable pub first_shut_out : Plan → List Bool → Option ℕ
 first_shut_out site right = least_below (shut_out site.doors site.origin site.destination right) site.people
 
 -- "its tables pass 3 and 6 to 10": the whole test of a record's tables, each finished before the next

@@ -1,8 +1,8 @@
 -- The way out of a location, as 01, "Site sheet", defines it.
-use Rattle.std.specs.Prelude.{ℕ, zero, suc, ◌-◌, ◌≤◌, ◌<◌, min, ◌≡◌, Bool, true, false, List, [], ◌∷◌, ◌++◌, get_or, length, drop, leb}
+use Rattle.std.specs.Prelude.{ℕ, zero, suc, ◌-◌, ◌≤◌, ◌<◌, min, ◌≡◌, Bool, true, false, List, [], ◌∷◌, ◌++◌, get_or, length, drop, leb, Result, Ok, Err}
 use Rattle.tables.specs.Tables.{most_locations}
-use Rattle.findings.specs.declared.WayTold.{WayTold}
-use Rattle.findings.specs.declared.WayTold.TheVariants.{Length, TooShort}
+use Rattle.findings.specs.declared.TooShort.{TooShort}
+use Rattle.findings.specs.Told.{too_short}
 
 -- "The way out of a location is its exit followed by the way out of that exit, and nothing for location 0."
 pub data Way (exit : List ℕ) : ℕ → List ℕ → Type 0 where
@@ -43,8 +43,8 @@ unfoldable pub if_room : {A : Type 0} → Bool → A → A → A
 if_room true there short = there
 if_room false there short = short
 
-unfoldable pub way_told_in : List ℕ → List ℕ → WayTold
-way_told_in way list = if_room (leb (length way) (length list)) (Length (length way)) TooShort
+unfoldable pub way_told_in : List ℕ → List ℕ → Result ℕ TooShort
+way_told_in way list = if_room (leb (length way) (length list)) (Ok (length way)) (Err too_short)
 
 unfoldable pub way_written_in : List ℕ → List ℕ → List ℕ
 way_written_in way list = if_room (leb (length way) (length list)) (way ++ drop (length way) list) list

@@ -1,16 +1,15 @@
 -- Text written into a list: texts written one behind the other are one text. `Pending` says what is still to be written; it begins
 -- with the whole text, each part that is written is taken off its front, and it ends with nothing. Assumes nothing.
-use Prim.Native.Nat.{ℕ, zero, suc, ◌+◌, ◌≤◌, ◌<◌}
+use Prim.Native.Nat.{ℕ, zero, suc, ◌+◌, ◌≤◌}
 use mathlib.Core.Path.{◌≡◌, refl, sym, ap, subst, ◌∙◌}
 use mathlib.Core.Bool.{Bool, true, false}
 use mathlib.Core.List.{List, [], ◌∷◌, ◌++◌}
 use native.Mathlib.Omega.{arith}
 use native.Mathlib.Nat.{add-zero}
-use native.Mathlib.Numerals.{add-one}
 use lib.Dec.{leb}
 use borrow.Author.Tests.{leb-true, leb-false}
-use lib.ListN.{length, get_or, set, drop, length-append}
-use lib.Seq.{sets, length-sets, drop-cons}
+use lib.ListN.{length, set, length-append}
+use lib.Seq.{sets, length-sets}
 use Rattle.text.specs.Wrote.{last_place, behind, Wrote}
 
 -- ---- places
@@ -96,15 +95,3 @@ module _ {before : List ℕ} {at : ℕ} {all out : List ℕ} {next : ℕ} {rest 
   -- nothing is left
   pub ended : rest ≡ [] → Wrote before at all out next
   ended e = record { place = sym (behind_none next p.there) ∙ rw e at p.place; list = rw e at p.list }
-
--- ---- the loop over some bytes has come to byte i
-
-pub record Still (bytes before : List ℕ) (at : ℕ) (out : List ℕ) (next i : ℕ) : Type 0 where
-  pub low : i ≤ length bytes
-  pub pending : Pending before at bytes out next (drop i bytes)
-
-pub still_more : {bytes before : List ℕ} {at : ℕ} {out : List ℕ} {next i : ℕ} {after : List ℕ} {seam : ℕ} → Still bytes before at out next i
-    → i < length bytes → Wrote out next (get_or bytes i 0 ∷ []) after seam → Still bytes before at after seam (i + 1)
-still_more {bytes} {i = i} s h w =
-    let e : drop i bytes ≡ (get_or bytes i 0 ∷ []) ++ drop (i + 1) bytes = rw (add-one i) (drop-cons bytes i 0 h) in
-    record { low = omega arith; pending = more s.pending e w }

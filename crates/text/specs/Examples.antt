@@ -1,10 +1,9 @@
 -- Small texts: numbers at the ends of their widths, rows, a text in lists of three lengths.
-use Rattle.std.specs.Prelude.{◌≡◌, [], ◌∷◌}
-use Rattle.findings.specs.declared.Printed.TheVariants.{Text, TooShort}
+use Rattle.std.specs.Prelude.{◌≡◌, [], ◌∷◌, Ok, Err}
 use Rattle.text.specs.Text.{decimal, row_of_numbers}
 use Rattle.text.specs.Wrote.{last_place, behind}
 use Rattle.text.specs.Printed.{printed_of, written}
-use Rattle.findings.specs.Told.{printed_no}
+use Rattle.findings.specs.Told.{printed_no, too_short}
 
 pub record TextExamples : Type 0 where
   -- 0, 9, 10 and 307: no number begins with a needless zero
@@ -14,7 +13,7 @@ pub record TextExamples : Type 0 where
   -- behind a place, and behind the last
   pub places : (behind 7 2 ≡ 9) × (behind last_place 2 ≡ last_place)
   -- a text in a list that is longer, in one of its own length, and in one that is too short, which is as it was: 13
-  pub in_a_longer : (printed_of (7 ∷ []) (8 ∷ 9 ∷ []) ≡ Text 1) × (written (7 ∷ []) (8 ∷ 9 ∷ []) ≡ 7 ∷ 9 ∷ [])
-  pub in_its_own : (printed_of (7 ∷ []) (8 ∷ []) ≡ Text 1) × (written (7 ∷ []) (8 ∷ []) ≡ 7 ∷ [])
-  pub in_a_shorter : (printed_of (6 ∷ 7 ∷ []) (8 ∷ []) ≡ TooShort) × (written (6 ∷ 7 ∷ []) (8 ∷ []) ≡ 8 ∷ [])
-  pub numbers : (printed_no (Text 1) ≡ 0) × (printed_no TooShort ≡ 13)
+  pub in_a_longer : (printed_of (7 ∷ []) (8 ∷ 9 ∷ []) ≡ Ok 1) × (written (7 ∷ []) (8 ∷ 9 ∷ []) ≡ 7 ∷ 9 ∷ [])
+  pub in_its_own : (printed_of (7 ∷ []) (8 ∷ []) ≡ Ok 1) × (written (7 ∷ []) (8 ∷ []) ≡ 7 ∷ [])
+  pub in_a_shorter : (printed_of (6 ∷ 7 ∷ []) (8 ∷ []) ≡ Err too_short) × (written (6 ∷ 7 ∷ []) (8 ∷ []) ≡ 8 ∷ [])
+  pub numbers : (printed_no (Ok 1) ≡ 0) × (printed_no (Err too_short) ≡ 13)

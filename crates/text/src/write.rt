@@ -4,10 +4,8 @@ ghost use Rattle.std.specs.Prelude.{[], ◌∷◌, ◌<◌};
 ghost use Rattle.text.specs.Text.{decimal, pair_of};
 ghost use Rattle.text.specs.Wrote.{Wrote};
 
-// No place lies behind this one.
-const LAST_PLACE: usize = 18446744073709551615;
-
-// One byte.
+// One byte. No place lies behind the last.
+#[tactic(auto, unfolding(crate::specs::Wrote::behind))]
 pub fn put(out: &mut [u8], at: usize, byte: u8) -> usize
     ensures { Wrote out.old at (byte ∷ []) out.new result }
 {
@@ -15,10 +13,7 @@ pub fn put(out: &mut [u8], at: usize, byte: u8) -> usize
         out[at] = byte;
         return at + 1;
     }
-    if at == LAST_PLACE {
-        return at;
-    }
-    at + 1
+    at.saturating_add(1)
 }
 
 // Some bytes.
@@ -26,10 +21,8 @@ pub fn put_bytes<'a>(out: &'a mut [u8], at: usize, bytes: &'a [u8]) -> usize
     ensures { Wrote out.old at bytes.now out.new result }
 {
     let mut next = at;
-    let mut i = 0;
-    while i < bytes.len() {
-        next = put(out, next, bytes[i]);
-        i += 1;
+    for byte in bytes {
+        next = put(out, next, *byte);
     }
     next
 }

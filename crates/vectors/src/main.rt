@@ -7,7 +7,8 @@
 #![tactic(auto)]
 
 use blank_lists::{blank_panel_text, blank_sheet};
-use findings::Printed;
+use findings::TooShort;
+use numbers::Numbered;
 use run::texts::{panel_text, where_text};
 use sheet_files::read_sheet;
 use site::read_site;
@@ -24,15 +25,140 @@ const MOST_LENT: usize = 2048;
 // How many pairs four digits can number.
 const MOST_CASES: usize = 10000;
 
-// Which of the three texts.
-#[derive(Clone, Copy)]
-enum Text {
-    // what `panel` prints
-    Panel,
-    // what `where` prints
-    Where,
-    // what `events` prints
-    Events,
+// Writes a word, the paper's number of an answer, and a last word with the line's end.
+fn write_line(rt: &impl Print, word: &[u8], printed: Result<usize, TooShort>, last: &[u8]) {
+    let _ = rt.write_all(word);
+    let _ = rt.print(printed.number());
+    let _ = rt.write_all(last);
+}
+
+// A text into a list of which so many bytes are lent, one too few. `put` puts it into the list that it is lent.
+fn write_short<F: Fn(&mut [u8]) -> Result<usize, TooShort>>(rt: &impl Print, put: &F, room: usize)
+    requires { F.IsAlwaysCallable put.now }
+{
+    let mut list = [0; MOST_LENT];
+    if MOST_LENT < room {
+        return;
+    }
+    let printed = put(&mut list[..room]);
+    if list == [0; MOST_LENT] {
+        write_line(rt, b"short,", printed, b"\r\n");
+    } else {
+        write_line(rt, b"short,", printed, b",altered\r\n");
+    }
+}
+
+// The same into a list of which as many bytes are lent as the text has.
+fn write_exact<F: Fn(&mut [u8]) -> Result<usize, TooShort>>(
+    rt: &impl Print,
+    put: &F,
+    expected: &[u8],
+)
+    requires { F.IsAlwaysCallable put.now }
+{
+    let mut list = [0; MOST_LENT];
+    let room = expected.len();
+    if MOST_LENT < room {
+        return;
+    }
+    let printed = put(&mut list[..room]);
+    if &list[..room] == expected {
+        write_line(rt, b"exact,", printed, b"\r\n");
+    } else {
+        write_line(rt, b"exact,", printed, b",differs\r\n");
+    }
+}
+
+// A text of a short sheet into lists of the text's own length and of one byte less.
+fn write_lent<F: Fn(&mut [u8]) -> Result<usize, TooShort>>(
+    rt: &impl Print,
+    put: &F,
+    expected: &[u8],
+    is_short: bool,
+)
+    requires { F.IsAlwaysCallable put.now }
+{
+    let length = expected.len();
+    if 0 < length && is_short {
+        write_short(rt, put, length - 1);
+        write_exact(rt, put, expected);
+    }
+}
+
+// A text, and the lists beside it.
+fn show<F: Fn(&mut [u8]) -> Result<usize, TooShort>>(rt: &impl Print, put: &F, is_short: bool)
+    requires { F.IsAlwaysCallable put.now }
+{
+    let mut out = blank_panel_text();
+    if let Ok(length) = put(&mut out) {
+        if let Some(text) = out.get(..length) {
+            let _ = rt.write_all(text);
+            write_lent(rt, put, text, is_short);
+        }
+    }
+}
+
+// The stream, if there is one, with CRLF behind it, and the lists beside it.
+fn show_events<F: Fn(&mut [u8]) -> Result<usize, TooShort>>(
+    rt: &impl Print,
+    put: &F,
+    is_short: bool,
+)
+    requires { F.IsAlwaysCallable put.now }
+{
+    let mut out = blank_events_text();
+    if let Ok(length) = put(&mut out) {
+        if let Some(stream) = out.get(..length) {
+            if !stream.is_empty() {
+                let _ = rt.write_all(stream);
+                let _ = rt.write_all(b"\r\n");
+                write_lent(rt, put, stream, is_short);
+            }
+        }
+    }
+}
+
+// What the site sheet is told: the paper's number, the place told with it and the second place.
+fn write_verdict(rt: &impl Print, site: &[u8]) {
+    let read = read_site(site);
+    let (place, second) = match read {
+        Ok(_) => (0, 0),
+        Err(refusal) => (refusal.place(), refusal.second_place()),
+    };
+    let _ = rt.write_all(b"site,");
+    let _ = rt.print(read.number());
+    let _ = rt.write_all(b",");
+    let _ = rt.print(place);
+    let _ = rt.write_all(b",");
+    let _ = rt.print(second);
+    let _ = rt.write_all(b"\r\n");
+}
+
+// What a pair of sheets is told.
+fn show_pair(rt: &impl Print, site: &[u8], steps: &[u8]) {
+    let is_short = steps.len() <= MOST_SHORT;
+    write_verdict(rt, site);
+    show(rt, &|out: &mut [u8]| panel_text(site, steps, out), is_short);
+    show(rt, &|out: &mut [u8]| where_text(site, steps, out), is_short);
+    show_events(
+        rt,
+        &|out: &mut [u8]| events_text(site, steps, out),
+        is_short,
+    );
+}
+
+fn is_there(rt: &impl Files, name: &str) -> bool {
+    fs::open(rt, name).is_ok()
+}
+
+// What the sheets of two files are told; answers whether one of the two files is there.
+fn run_pair(rt: &(impl Files + Print + Eprint), site_name: &str, steps_name: &str) -> bool {
+    let mut site = blank_sheet();
+    let mut steps = blank_sheet();
+    let in_site = read_sheet(rt, site_name, &mut site);
+    let in_steps = read_sheet(rt, steps_name, &mut steps);
+    show_pair(rt, &site[..in_site], &steps[..in_steps]);
+    is_there(rt, site_name) || is_there(rt, steps_name)
 }
 
 // The last decimal digit of a number.
@@ -40,177 +166,11 @@ fn digit(n: usize) -> u8 {
     b'0' + (n % 10) as u8
 }
 
-fn text_of<'a>(text: Text, site: &'a [u8], steps: &'a [u8], out: &'a mut [u8]) -> Printed {
-    match text {
-        Text::Panel => panel_text(site, steps, out),
-        Text::Where => where_text(site, steps, out),
-        Text::Events => events_text(site, steps, out),
+// A file's name with the case's number in front.
+fn numbered<const N: usize>(n: usize, mut name: [u8; N]) -> [u8; N] {
+    for (byte, of) in name.iter_mut().zip([1000, 100, 10, 1]) {
+        *byte = digit(n / of);
     }
-}
-
-// Writes a word, the paper's number of an answer, and a last word with the line's end.
-fn write_line<'a>(rt: &impl Print, word: &'a [u8], printed: Printed, last: &'a [u8]) {
-    let _ = rt.write_all(word);
-    let _ = rt.print(printed.number());
-    let _ = rt.write_all(last);
-}
-
-fn blank_lent() -> [u8; MOST_LENT] {
-    [0; MOST_LENT]
-}
-
-fn is_blank(list: &[u8; MOST_LENT]) -> bool {
-    *list == blank_lent()
-}
-
-// A list of which so many bytes are lent, one too few.
-fn write_short<'a>(rt: &impl Print, text: Text, site: &'a [u8], steps: &'a [u8], room: usize) {
-    let mut list = blank_lent();
-    if MOST_LENT < room {
-        return;
-    }
-    let printed = text_of(text, site, steps, &mut list[0..room]);
-    if is_blank(&list) {
-        write_line(rt, b"short,", printed, b"\r\n");
-    } else {
-        write_line(rt, b"short,", printed, b",altered\r\n");
-    }
-}
-
-// Whether two lists hold the same bytes.
-fn is_same(one: &[u8], other: &[u8]) -> bool {
-    one == other
-}
-
-// A list of which as many bytes are lent as the text has.
-fn write_exact<'a>(
-    rt: &impl Print,
-    text: Text,
-    site: &'a [u8],
-    steps: &'a [u8],
-    expected: &'a [u8],
-    list: &'a mut [u8],
-) {
-    let room = expected.len();
-    if list.len() < room {
-        return;
-    }
-    let printed = text_of(text, site, steps, &mut list[0..room]);
-    if is_same(&list[0..room], expected) {
-        write_line(rt, b"exact,", printed, b"\r\n");
-    } else {
-        write_line(rt, b"exact,", printed, b",differs\r\n");
-    }
-}
-
-// Lists of the text's own length and of one byte less.
-fn write_lent<'a>(
-    rt: &impl Print,
-    text: Text,
-    site: &'a [u8],
-    steps: &'a [u8],
-    expected: &'a [u8],
-) {
-    let length = expected.len();
-    if 0 < length && steps.len() <= MOST_SHORT {
-        write_short(rt, text, site, steps, length - 1);
-        let mut list = blank_lent();
-        write_exact(rt, text, site, steps, expected, &mut list);
-    }
-}
-
-// The text that lies at the start of a list, and the lists beside it.
-fn write_text<'a>(
-    rt: &impl Print,
-    text: Text,
-    site: &'a [u8],
-    steps: &'a [u8],
-    out: &'a [u8],
-    length: usize,
-) {
-    if length <= out.len() {
-        let _ = rt.write_all(&out[0..length]);
-        write_lent(rt, text, site, steps, &out[0..length]);
-    }
-}
-
-fn show<'a>(rt: &impl Print, text: Text, site: &'a [u8], steps: &'a [u8]) {
-    let mut out = blank_panel_text();
-    if let Printed::Text(length) = text_of(text, site, steps, &mut out) {
-        write_text(rt, text, site, steps, &out, length);
-    }
-}
-
-// The stream that lies at the start of a list, with CRLF behind it, and the lists beside it.
-fn write_stream<'a>(
-    rt: &impl Print,
-    site: &'a [u8],
-    steps: &'a [u8],
-    out: &'a [u8],
-    length: usize,
-) {
-    if length <= out.len() {
-        let _ = rt.write_all(&out[0..length]);
-        let _ = rt.write_all(b"\r\n");
-        write_lent(rt, Text::Events, site, steps, &out[0..length]);
-    }
-}
-
-fn show_events<'a>(rt: &impl Print, site: &'a [u8], steps: &'a [u8]) {
-    let mut out = blank_events_text();
-    if let Printed::Text(length) = events_text(site, steps, &mut out) {
-        if 0 < length {
-            write_stream(rt, site, steps, &out, length);
-        }
-    }
-}
-
-// What the site sheet is told: the paper's number, the place told with it and the second place.
-fn write_verdict(rt: &impl Print, site: &[u8]) {
-    let answer = read_site(site);
-    let verdict = answer.verdict;
-    let _ = rt.write_all(b"site,");
-    let _ = rt.print(verdict.number());
-    let _ = rt.write_all(b",");
-    let _ = rt.print(verdict.place());
-    let _ = rt.write_all(b",");
-    let _ = rt.print(verdict.second_place());
-    let _ = rt.write_all(b"\r\n");
-}
-
-fn is_there(rt: &impl Files, name: &str) -> bool {
-    fs::open(rt, name).is_ok()
-}
-
-// What a pair of sheets is told; answers whether one of the two files is there.
-fn run_pair(rt: &(impl Files + Print + Eprint), site_name: &str, steps_name: &str) -> bool {
-    let mut site = blank_sheet();
-    let mut steps = blank_sheet();
-    let in_site = read_sheet(rt, site_name, &mut site);
-    let in_steps = read_sheet(rt, steps_name, &mut steps);
-    write_verdict(rt, &site[..in_site]);
-    show(rt, Text::Panel, &site[..in_site], &steps[..in_steps]);
-    show(rt, Text::Where, &site[..in_site], &steps[..in_steps]);
-    show_events(rt, &site[..in_site], &steps[..in_steps]);
-    is_there(rt, site_name) || is_there(rt, steps_name)
-}
-
-// The files of a case, by its number.
-fn site_of(n: usize) -> [u8; 13] {
-    let mut name = *b"NNNN-site.csv";
-    name[0] = digit(n / 1000);
-    name[1] = digit(n / 100);
-    name[2] = digit(n / 10);
-    name[3] = digit(n);
-    name
-}
-
-fn steps_of(n: usize) -> [u8; 14] {
-    let mut name = *b"NNNN-steps.csv";
-    name[0] = digit(n / 1000);
-    name[1] = digit(n / 100);
-    name[2] = digit(n / 10);
-    name[3] = digit(n);
     name
 }
 
@@ -220,10 +180,10 @@ fn text_of_name(name: &[u8]) -> &str {
 }
 
 fn run_case(rt: &(impl Files + Print + Eprint), n: usize) -> bool {
-    let site = site_of(n);
-    let steps = steps_of(n);
+    let site = numbered(n, *b"NNNN-site.csv");
+    let steps = numbered(n, *b"NNNN-steps.csv");
     let _ = rt.write_all(b"case ");
-    let _ = rt.write_all(&site[0..4]);
+    let _ = rt.write_all(&site[..4]);
     let _ = rt.write_all(b"\r\n");
     run_pair(rt, text_of_name(&site), text_of_name(&steps))
 }

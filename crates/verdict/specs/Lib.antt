@@ -1,2 +1,3 @@
--- `Numbers`: the number of a verdict and the places that are told with it.
+-- `Verdict`: what is said of a site sheet. `Numbers`: the number of a verdict and the places that are told with it.
+pub mod Verdict
 pub mod Numbers

@@ -1,8 +1,9 @@
 -- The number of a verdict and its places. 01, "Numbers given back".
 use Rattle.std.specs.Prelude.{ℕ}
 use Rattle.numbers.specs.Numbers.{done_no, too_long_no, bad_form_no, out_of_range_no, twice_no, no_site_no, no_exit_no, stray_no, no_door_no, no_right_no, shut_out_no}
-use Rattle.verdict.specs.declared.Verdict.{Verdict}
-use Rattle.verdict.specs.declared.Verdict.TheVariants.{Accepted, TooLong, BadRow, OutOfRange, Twice, NoSite, NoExit, Stray, NoDoor, NoRight, ShutOut}
+use Rattle.verdict.specs.declared.SiteRefused.{SiteRefused}
+use Rattle.verdict.specs.Verdict.{Verdict, said_of}
+use Rattle.verdict.specs.Verdict.{Accepted, TooLong, BadRow, OutOfRange, Twice, NoSite, NoExit, Stray, NoDoor, NoRight, ShutOut}
 
 -- the table "Numbers given back", columns "No." and "Place told"
 abbrev pub verdict_no : Verdict → ℕ
@@ -44,3 +45,7 @@ second_place (Stray l) = 0
 second_place (NoDoor l) = 0
 second_place (NoRight p l) = l
 second_place (ShutOut p) = 0
+
+-- the number of a refusal
+abbrev pub site_refused_no : SiteRefused → ℕ
+site_refused_no refusal = verdict_no (said_of refusal)

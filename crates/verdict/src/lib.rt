@@ -1,17 +1,16 @@
-// What is said of a site sheet: the verdict, with its number and the places that are told with it. The
-// definitions are in specs/, in the words of paper 01, "Numbers given back".
+// Why a site sheet is refused, with the number and the places that are told with it. The definitions are in specs/, in the words of paper
+// 01, "Numbers given back".
 #![tactic(auto)]
 
 ghost use Rattle.std.specs.Prelude.{◌≡◌};
-ghost use Rattle.verdict.specs.Numbers.{verdict_no, first_place, second_place};
+ghost use Rattle.verdict.specs.Verdict.{said_of};
+ghost use Rattle.verdict.specs.Numbers.{site_refused_no, first_place, second_place};
 
-use numbers::Paper;
+use numbers::{Numbered, Paper};
 
-// What is said of a sheet, with the place that is told.
-#[derive(Clone, Copy)]
-pub enum Verdict {
-    // 0: the sheet obeys every rule
-    Accepted,
+// Why a sheet is refused, with the place that is told.
+#[derive(Clone, Copy, PartialEq, Eq)]
+pub enum SiteRefused {
     // 1: the sheet is over the limit
     TooLong,
     // 2: this row is of bad form, or of an unknown kind; row 0 is a wrong header
@@ -34,61 +33,51 @@ pub enum Verdict {
     ShutOut(usize),
 }
 
-impl Verdict {
-    // The paper's number.
-    pub fn number(self) -> u8
-        ensures { result ≡ verdict_no self }
-    {
+impl Numbered for SiteRefused {
+    ghost number_of = { site_refused_no };
+
+    fn number(&self) -> u8 {
         match self {
-            Verdict::Accepted => Paper::DONE,
-            Verdict::TooLong => Paper::TOO_LONG,
-            Verdict::BadRow(_) => Paper::BAD_FORM,
-            Verdict::OutOfRange(_) => Paper::OUT_OF_RANGE,
-            Verdict::Twice(_) => Paper::TWICE,
-            Verdict::NoSite => Paper::NO_SITE,
-            Verdict::NoExit(_) => Paper::NO_EXIT,
-            Verdict::Stray(_) => Paper::STRAY,
-            Verdict::NoDoor(_) => Paper::NO_DOOR,
-            Verdict::NoRight(_, _) => Paper::NO_RIGHT,
-            Verdict::ShutOut(_) => Paper::SHUT_OUT,
+            SiteRefused::TooLong => Paper::TOO_LONG,
+            SiteRefused::BadRow(_) => Paper::BAD_FORM,
+            SiteRefused::OutOfRange(_) => Paper::OUT_OF_RANGE,
+            SiteRefused::Twice(_) => Paper::TWICE,
+            SiteRefused::NoSite => Paper::NO_SITE,
+            SiteRefused::NoExit(_) => Paper::NO_EXIT,
+            SiteRefused::Stray(_) => Paper::STRAY,
+            SiteRefused::NoDoor(_) => Paper::NO_DOOR,
+            SiteRefused::NoRight(_, _) => Paper::NO_RIGHT,
+            SiteRefused::ShutOut(_) => Paper::SHUT_OUT,
         }
     }
+}
 
+impl SiteRefused {
     // The place that is told with it: a row, a location or a person; 0 where there is none.
     pub fn place(self) -> usize
-        ensures { result ≡ first_place self }
+        ensures { result ≡ first_place (said_of self) }
     {
         match self {
-            Verdict::Accepted => 0,
-            Verdict::TooLong => 0,
-            Verdict::BadRow(row) => row,
-            Verdict::OutOfRange(row) => row,
-            Verdict::Twice(row) => row,
-            Verdict::NoSite => 1,
-            Verdict::NoExit(location) => location,
-            Verdict::Stray(location) => location,
-            Verdict::NoDoor(location) => location,
-            Verdict::NoRight(person, _) => person,
-            Verdict::ShutOut(person) => person,
+            SiteRefused::TooLong => 0,
+            SiteRefused::BadRow(row) => row,
+            SiteRefused::OutOfRange(row) => row,
+            SiteRefused::Twice(row) => row,
+            SiteRefused::NoSite => 1,
+            SiteRefused::NoExit(location) => location,
+            SiteRefused::Stray(location) => location,
+            SiteRefused::NoDoor(location) => location,
+            SiteRefused::NoRight(person, _) => person,
+            SiteRefused::ShutOut(person) => person,
         }
     }
 
     // The second place: the location of 9, and 0 for all others.
     pub fn second_place(self) -> usize
-        ensures { result ≡ second_place self }
+        ensures { result ≡ second_place (said_of self) }
     {
         match self {
-            Verdict::NoRight(_, location) => location,
-            Verdict::Accepted => 0,
-            Verdict::TooLong => 0,
-            Verdict::BadRow(_) => 0,
-            Verdict::OutOfRange(_) => 0,
-            Verdict::Twice(_) => 0,
-            Verdict::NoSite => 0,
-            Verdict::NoExit(_) => 0,
-            Verdict::Stray(_) => 0,
-            Verdict::NoDoor(_) => 0,
-            Verdict::ShutOut(_) => 0,
+            SiteRefused::NoRight(_, location) => location,
+            _ => 0,
         }
     }
 }

@@ -4,18 +4,18 @@
 #![tactic(auto)]
 
 use blank_lists::{blank_sheet, blank_where_text};
-use findings::Printed;
 use program_io::write_text;
 use run::texts::where_text;
 use sheet_files::read_asked;
 
+// As the other two programs of two sheets, but for the text and its list: what a program does stands whole in it.
 fn main(rt: HostRuntime) {
     let mut site = blank_sheet();
     let mut steps = blank_sheet();
     let mut out = blank_where_text();
     let in_site = read_asked(&rt, 1, "site.csv", &mut site);
     let in_steps = read_asked(&rt, 2, "steps.csv", &mut steps);
-    if let Printed::Text(length) = where_text(&site[..in_site], &steps[..in_steps], &mut out) {
+    if let Ok(length) = where_text(&site[..in_site], &steps[..in_steps], &mut out) {
         write_text(&rt, &out, length);
     }
 }

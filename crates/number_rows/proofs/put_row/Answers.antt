@@ -1,16 +1,14 @@
--- `put_row` meets its contract: each turn writes a number and a comma, and behind the loop stand the last number and CRLF.
--- Assumes nothing.
+-- `put_row` meets its contract: the first number, in each turn a comma and a number, and behind the loop CRLF. Assumes nothing.
 use native.Mathlib.Omega.{arith}
 use borrow.Author.Rules.{rules}
-use Rattle.text.proofs.Writing.{begun}
-use Rattle.number_rows.proofs.Loop.{numbers_more, row_end_lem}
+use Rattle.number_rows.proofs.Loop.{row_begun, numbers_more, row_ended}
 use Rattle.number_rows.proofs.put_row.Goals as goal
 
-pub loop-i-init : goal.loop-i-init
-loop-i-init c = record { low = omega arith; pending = begun (omega arith) (omega arith) }
+pub loop-n-init : goal.loop-n-init
+loop-n-init c = row_begun (omega arith) (omega arith) c.put_number-next.ensures
 
-pub loop-i-preserved : goal.loop-i-preserved
-loop-i-preserved c = search (rules, numbers_more)
+pub loop-n-preserved : goal.loop-n-preserved
+loop-n-preserved c = search (rules, numbers_more)
 
 pub returns : goal.returns
-returns c = search (rules, row_end_lem)
+returns c = search (rules, row_ended)

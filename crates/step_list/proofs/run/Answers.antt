@@ -26,8 +26,7 @@ run_rows-next-requires c =
     -- the lists of the record that is taken are as long as their arrays
     let shaped : Shaped c.args.start = search rules in
     let sound = (sound_tells _ shaped).yes (sym c.is_sound.ensures ∙ c.if-not-is_sound.false) in
-    let r = room _ _ _ _ _ _ _ c.room_for.result c.room_for.ensures (ap not c.if-not-room_for.false) in
-    record { sound = sound; steps_in_bounds = (r.in_doors, r.in_persons); steps_in_bounds_2 = (r.in_answers, r.in_phases, r.in_reasons, r.in_held) }
+    record { sound = sound; room = room _ _ _ _ _ _ _ (sym c.room_for.ensures ∙ c.if-not-room_for.false) }
 
 pub returns : goal.returns
 returns c =

@@ -1,36 +1,16 @@
--- `kind_of` meets its contract: the words are tried in their order. Assumes nothing.
-use Rattle.phases.specs.Kinds.{kind_of}
-use Rattle.cell_meaning.proofs.Naming.{naming}
+-- `kind_of` meets its contract: the table of words is searched. Assumes nothing.
+use borrow.Author.Rules.{rules}
+use mathlib.Core.Path.{refl, ◌∙◌}
+use Rattle.std.proofs.lemmas.Iterator.{YieldsList-from_slice}
+use Rattle.std.proofs.lemmas.Iterator.Search.{position_from_yields_List}
+use Rattle.cell_meaning.specs.Say.{is_word}
+use Rattle.steps_row.proofs.Words.{kind_there, no_kind}
 use Rattle.steps_row.proofs.kind_of.Goals as goal
 
-pub is_word-requires : goal.is_word-requires
-unfolding kind_of
-is_word-requires c = search naming
+pub returns-in-Some : goal.returns-in-Some
+returns-in-Some c =
+    c.from.ensures ∙ kind_there c.args.s.now c.args.cell c.iter.ensures.rest refl (position_from_yields_List (λ w. is_word c.args.s.now c.args.cell w.now) _ _ _ c.position.ensures.ran (YieldsList-from_slice _ c.iter.ensures.rest) (λ x b q k. search rules)) c.in-Some.is
 
-pub returns-then-is_word : goal.returns-then-is_word
-unfolding kind_of
-returns-then-is_word c = search naming
-
-pub is_word-requires-2 : goal.is_word-requires-2
-unfolding kind_of
-is_word-requires-2 c = search naming
-
-pub returns-then-is_word-2 : goal.returns-then-is_word-2
-unfolding kind_of
-returns-then-is_word-2 c = search naming
-
-pub is_word-requires-3 : goal.is_word-requires-3
-unfolding kind_of
-is_word-requires-3 c = search naming
-
-pub returns-then-is_word-3 : goal.returns-then-is_word-3
-unfolding kind_of
-returns-then-is_word-3 c = search naming
-
-pub kind_from_red-requires : goal.kind_from_red-requires
-unfolding kind_of
-kind_from_red-requires c = search naming
-
-pub returns : goal.returns
-unfolding kind_of
-returns c = search naming
+pub returns-in-None : goal.returns-in-None
+returns-in-None c =
+    no_kind c.args.s.now c.args.cell c.iter.ensures.rest refl (position_from_yields_List (λ w. is_word c.args.s.now c.args.cell w.now) _ _ _ c.position.ensures.ran (YieldsList-from_slice _ c.iter.ensures.rest) (λ x b q k. search rules)) c.in-None.is

@@ -1,15 +1,19 @@
--- `msgid_in` meets its contract: each turn passes over one byte more. Assumes nothing.
-use Rattle.syslog.proofs.Loops.{so_start, letter_found, letter_more, letter_none}
+-- `msgid_in` meets its contract: the first letter is found. Assumes nothing.
+use mathlib.Core.Path.{◌∙◌}
+use borrow.Author.Tests.{tests}
+use Rattle.std.proofs.Common.{rules}
+use Rattle.std.proofs.lemmas.Iterator.{YieldsList-from_slice}
+use Rattle.std.proofs.lemmas.Iterator.Search.{find_from_yields_List}
+use Rattle.syslog.proofs.Loops.{is_letter, letter_found, letter_none}
 use Rattle.syslog_read.proofs.msgid_in.Goals as goal
 
-pub loop-i-init : goal.loop-i-init
-loop-i-init c = so_start
+pub returns-in-Some : goal.returns-in-Some
+returns-in-Some c =
+    c.msgid_by.ensures
+    ∙ letter_found c.args.text.now (find_from_yields_List is_letter _ _ c.find.result c.find.ensures.ran (YieldsList-from_slice c.args.text.now c.iter.ensures.rest) (λ x b q k. search (rules, tests)))
+    c.in-Some.is
 
-pub returns-then-text-i-gt64 : goal.returns-then-text-i-gt64
-returns-then-text-i-gt64 c = letter_found c.loop-i.invariant c.loop-i-test.true c.if-text-i-gt64.true c.msgid_by.ensures
-
-pub loop-i-preserved : goal.loop-i-preserved
-loop-i-preserved c = letter_more c.loop-i.invariant c.loop-i-test.true c.if-text-i-gt64.false
-
-pub returns : goal.returns
-returns c = letter_none c.loop-i.invariant c.loop-i-test.false
+pub returns-in-None : goal.returns-in-None
+returns-in-None c =
+    letter_none c.args.text.now (find_from_yields_List is_letter _ _ c.find.result c.find.ensures.ran (YieldsList-from_slice c.args.text.now c.iter.ensures.rest) (λ x b q k. search (rules, tests)))
+    c.in-None.is

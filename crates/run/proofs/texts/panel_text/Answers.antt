@@ -1,14 +1,14 @@
 -- `panel_text` meets its contract: the site's refusal, then what becomes of the steps sheet. Assumes nothing.
-use mathlib.Core.Path.{refl}
-use Rattle.run_text.proofs.Sheets.{panel_refused, accepted_fresh_sound, panel_is}
+use mathlib.Core.Path.{refl, sym, ◌∙◌}
 use Rattle.text.proofs.Printing.{text_is}
+use Rattle.run_text.proofs.Sheets.{handed_sound, panel_told, panel_refusal}
 use Rattle.run.proofs.texts.panel_text.Goals as goal
 
-pub returns-then-number-ne-DONE : goal.returns-then-number-ne-DONE
-returns-then-number-ne-DONE c = text_is _ _ c.args.out.now (panel_refused c.args.site.now c.args.steps.now c.read_site-read.ensures c.number-number.ensures c.if-number-ne-DONE.true) c.print_alone.ensures
-
 pub print_headed-requires : goal.print_headed-requires
-print_headed-requires c = accepted_fresh_sound c.args.site.now c.args.steps.now c.read_site-read.ensures c.number-number.ensures c.if-number-ne-DONE.false
+print_headed-requires c = handed_sound c.args.site.now c.args.steps.now (sym c.in-Ok.is ∙ c.read_site.ensures)
 
-pub returns : goal.returns
-returns c = text_is _ _ c.args.out.now (panel_is c.args.site.now c.args.steps.now c.read_site-read.ensures c.number-number.ensures c.if-number-ne-DONE.false refl) c.print_headed.ensures
+pub returns-in-Ok : goal.returns-in-Ok
+returns-in-Ok c = text_is _ _ c.args.out.now (panel_told c.args.site.now c.args.steps.now (sym c.in-Ok.is ∙ c.read_site.ensures) refl) c.print_headed.ensures
+
+pub returns-in-Err : goal.returns-in-Err
+returns-in-Err c = text_is _ _ c.args.out.now (panel_refusal c.args.site.now c.args.steps.now (sym c.in-Err.is ∙ c.read_site.ensures)) (rw c.number.ensures at c.print_alone.ensures)

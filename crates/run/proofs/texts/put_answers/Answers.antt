@@ -9,8 +9,8 @@ loop-i-init c = answer_start (omega arith) (omega arith)
 
 pub loop-i-preserved : goal.loop-i-preserved
 loop-i-preserved c =
-    let p = c.requires in
-    answer_more c.loop-i.invariant p.0 p.1 p.2 c.loop-i-test.true c.wide-answer.ensures c.wide-phase.ensures c.wide-reason.ensures refl c.put_row-next.ensures
+    let told = c.args.replies in
+    answer_more c.loop-i.invariant told.phases_told told.reasons_told told.held_told (omega arith) refl refl refl refl c.put_row-next.ensures
 
 pub returns : goal.returns
-returns c = answer_end c.loop-i.invariant c.loop-i-test.false
+returns c = answer_end c.loop-i.invariant (omega arith)

@@ -10,8 +10,8 @@ pub loop-i-init : goal.loop-i-init
 loop-i-init c = place_start (omega arith) (omega arith)
 
 pub loop-i-preserved : goal.loop-i-preserved
-loop-i-preserved c = place_more c.loop-i.invariant c.loop-i-test.true c.wide-location.ensures c.put_row-next.ensures
+loop-i-preserved c = place_more c.loop-i.invariant (omega arith) refl c.put_row-next.ensures
 
 pub returns : goal.returns
 unfolding places_text
-returns c = last (more (begun (omega arith) (omega arith)) refl c.put_bytes-next.ensures) (place_end c.loop-i.invariant c.loop-i-test.false)
+returns c = last (more (begun (omega arith) (omega arith)) refl c.put_bytes-next.ensures) (place_end c.loop-i.invariant (omega arith))

@@ -10,11 +10,11 @@ pub returns-then-whole : goal.returns-then-whole
 returns-then-whole c =
     let a = c.args in
     let rows = last (more (begun (omega arith) (omega arith)) refl c.put_bytes-rows.ensures) c.put_answers-end.ensures in
-    said (run_whole (replies_from a.answers.now a.phases.now a.reasons.now a.held.now) c.if-whole.true) rows
+    said (run_whole (replies_from a.replies.answers.now a.replies.phases.now a.replies.reasons.now a.replies.held.now) c.if-whole.true) rows
 
 pub returns : goal.returns
 returns c =
     let a = c.args in
     let rows = more (more (begun (omega arith) (omega arith)) refl c.put_bytes-rows.ensures) refl c.put_answers-end.ensures in
-    let p = c.requires in
-    said (run_broken (replies_from a.answers.now a.phases.now a.reasons.now a.held.now) (from_length a.answers.now a.phases.now a.reasons.now a.held.now p.0 p.1 p.2) c.if-whole.false) (last rows c.put_row.ensures)
+    let told = a.replies in
+    said (run_broken (replies_from a.replies.answers.now a.replies.phases.now a.replies.reasons.now a.replies.held.now) (from_length a.replies.answers.now a.replies.phases.now a.replies.reasons.now a.replies.held.now told.phases_told told.reasons_told told.held_told) c.if-whole.false) (last rows c.put_row.ensures)

@@ -3,9 +3,6 @@ use native.Mathlib.Omega.{arith}
 use Rattle.text.proofs.Decimal.{short_written, pair_written, long_written}
 use Rattle.text.proofs.write.+put_long.Goals as goal
 
-pub put_long-next-requires : goal.put_long-next-requires
-put_long-next-requires t c = omega arith
-
 pub returns-then-n-ge100 : goal.returns-then-n-ge100
 returns-then-n-ge100 t c = long_written (omega arith) (omega arith) (omega (arith, c.if-n-ge100.true)) c.put_long-next.ensures c.put_pair.ensures
 

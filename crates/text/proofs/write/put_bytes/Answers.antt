@@ -1,15 +1,12 @@
 -- `put_bytes` meets its contract: each turn writes one byte more. Assumes nothing.
-use native.Mathlib.Omega.{arith}
-use borrow.Author.Rules.{rules}
+use native.Mathlib.Numerals.{add-one}
 use lib.ListN.{drop_of_length-le}
-use Rattle.text.proofs.Writing.{begun, ended, still_more}
+use lib.Seq.{drop-cons}
+use Rattle.text.proofs.Writing.{more, ended}
 use Rattle.text.proofs.write.put_bytes.Goals as goal
 
-pub loop-i-init : goal.loop-i-init
-loop-i-init c = record { low = omega arith; pending = begun (omega arith) (omega arith) }
-
-pub loop-i-preserved : goal.loop-i-preserved
-loop-i-preserved c = search (rules, still_more)
+pub loop-byte-preserved : goal.loop-byte-preserved
+loop-byte-preserved c = more c.loop-byte.invariant (rw (add-one c.loop-byte.byte-index) (drop-cons c.args.bytes.now c.loop-byte.byte-index 0 c.loop-byte-test.true)) c.put-next.ensures
 
 pub returns : goal.returns
-returns c = ended c.loop-i.invariant.pending (drop_of_length-le _ c.loop-i-test.false)
+returns c = ended c.loop-byte.invariant (drop_of_length-le _ c.loop-byte-test.false)

@@ -1,0 +1,2 @@
+-- That the numbers of what is told are those of the paper.
+pub mod Told

@@ -1,0 +1,2 @@
+-- What is asked before each question is answered.
+pub mod Questioned

@@ -1,0 +1,2 @@
+-- `Room`: which lists are long enough for a run.
+pub mod Room

@@ -1,0 +1,2 @@
+-- What is handed out with a verdict.
+pub mod Told
