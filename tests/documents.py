@@ -49,6 +49,7 @@ PARTS = {
     "site": ["Site"],
     "steps_row": ["Steps"],
     "steps": ["Steps"],
+    "steps_sheet": ["Steps"],
     "run": ["Run"],
     "blank_lists": ["Run"],
     "program_io": ["Run"],
@@ -66,27 +67,12 @@ SAID_IN = ["sheet_answers", "syslog_answers", "table_answers", "record_answers",
 WHOLE = {"Answers": "DemandOne", "Unique": "AnswersUnique"}
 # What these tell comes from outside, so that they have a promise and no field (docs/DEMANDS.md).
 OUTSIDE = {"sheet_files::read_sheet", "sheet_files::read_asked", "sheet_files::read_input", "sheet_files::name_in", "program_io::number_asked"}
-# What only lends what a struct holds, what makes a refusal that of another function, and the number of a refusal that only texts tell: their
-# promise is all that there is to say of them (docs/DEMANDS.md).
-HANDS_ON = {
-    "deeds::Moving::door_lists", "record::Record::tables", "record::Record::door_lists", "findings::WayRefused::from", "syslog::Unwritten::from",
-    "steps_sheet::Unheaded::number",
-}
+# What only lends what a struct holds: its promise is all that there is to say of it (docs/DEMANDS.md).
+HANDS_ON = {"deeds::Moving::door_lists", "record::Record::tables", "record::Record::door_lists"}
 # What only writes to standard error has no answer to promise.
 SAYS = {"sheet_files::fail"}
-# What is said of every plan is said of each that `plan` puts together from its parts, and of the one that lent tables are. An answer's
-# number is that of what is done or the refusal's; that of a list that is too short is 13, and that of a refused sheet its verdict's.
-PUT_TOGETHER = {
-    "plan": ["Plan"],
-    "plan_lent": ["Plan", "plan"],
-    "told_no": ["done_no"],
-    "short_no": ["too_short_no"],
-    "site_refused_no": ["verdict_no"],
-}
-# What hands the answer of a definition on in the code's own type: a field speaks of the answer itself.
-HANDED_ON = {"site_told", "heading_told", "reading_told", "said_of"}
-# What a promise asks of a closure that it is given: a field speaks of what comes of it.
-ASKED = {"Puts"}
+# What is said of every plan is said of each that `plan` puts together from its parts, and of the one that lent tables are.
+PUT_TOGETHER = {"plan": ["Plan"], "plan_lent": ["Plan", "plan"]}
 # The fields of what isn't called as they are: one for each type that a function is of, or the name of the answer that it is asked for.
 FIELDS = {
     "lists::entry_at": ["byte_at", "word_at", "flag_at"],
@@ -96,9 +82,6 @@ FIELDS = {
     "door::Doors::at": ["among"],
     "phases::Kind::from": ["kind_of_lem"],
     "phases::u8::from": ["kind_number"],
-    "verdict::SiteRefused::place": ["verdict_place"],
-    "verdict::SiteRefused::second_place": ["verdict_second_place"],
-    "verdict::SiteRefused::number": ["verdict_number"],
     "numbers::Result::number": [
         "way_told_number", "printed_number", "place_answer_number", "grant_answer_number", "way_answer_number",
         "line_written_number", "line_read_number", "frame_read_number",
@@ -271,7 +254,7 @@ def promised_by(head, text):
     promise = " ".join(re.findall(r"ensures \w* ?\{(.*?)\}$", head, re.S | re.M))
     # what a type has that stands for any, as `T.PAST_END`, is no case of an enum
     cases = {case for owner, case in re.findall(r"\b([A-Z]\w*)\.([A-Z]\w*)", promise) if owner not in parameters}
-    return (set(TOKEN.findall(promise)) & known - parameters | cases) - HANDED_ON - ASKED
+    return set(TOKEN.findall(promise)) & known - parameters | cases
 
 
 def field_names(name):

@@ -105,8 +105,8 @@ def scripts():
 
 def pages():
     """The documents."""
-    # docs/PORT.md and docs/DESIGN-PASS.md name what was called otherwise before
-    return ["README.md", os.path.join("examples", "README.md")] + sorted(set(glob.glob("docs/**/*.md", recursive=True)) - {"docs/PORT.md", "docs/DESIGN-PASS.md"})
+    # docs/PORT.md, docs/DESIGN-PASS.md and docs/LOOK-BACK.md name what was called otherwise before
+    return ["README.md", os.path.join("examples", "README.md")] + sorted(set(glob.glob("docs/**/*.md", recursive=True)) - {"docs/PORT.md", "docs/DESIGN-PASS.md", "docs/LOOK-BACK.md"})
 
 
 @functools.lru_cache(maxsize=None)

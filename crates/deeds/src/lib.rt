@@ -2,7 +2,8 @@
 // record, of which nothing else is needed here; any list of any length is judged.
 #![tactic(auto)]
 
-ghost use Rattle.std.specs.Prelude.{◌≡◌, ◌^◌, ◌<◌, set};
+ghost use Rattle.std.specs.Prelude.{◌≡◌, ◌^◌, ◌<◌, List, ℕ, set};
+ghost use Rattle.tables.specs.Tables.{plan};
 ghost use Rattle.rules.specs.Lent.{plan_lent};
 ghost use Rattle.granting.specs.Reasons.{first_reason};
 ghost use Rattle.deeds.specs.Deeds.{exist_among, deed_of, judged_of};
@@ -94,7 +95,8 @@ fn deed_of(does: Does, now: Door, to: u8, doors: usize, so: Doors) -> Deed
 // work.
 #[tactic(auto, using(std::proofs::lemmas::Bool::Decides::nat_tests), unfolding(crate::specs::Deeds::judged_of))]
 pub fn judge(site: Tables, place: &[u8], so: Doors, kind: Kind, door: usize, person: usize) -> Deed
-    ensures { result ≡ judged_of (plan_lent site.entry) site.entry.right.now place.now so.entry.phase.now so.entry.holder.now so.entry.count.now kind door person }
+    ensures told { result ≡ judged_of (plan_lent site.entry) site.entry.right.now place.now so.entry.phase.now so.entry.holder.now so.entry.count.now kind door person }
+    ensures whatever_else { (locations : ℕ) (exit : List ℕ) → result ≡ judged_of (plan site.entry.people locations site.entry.doors site.entry.origin.now site.entry.destination.now exit) site.entry.right.now place.now so.entry.phase.now so.entry.holder.now so.entry.count.now kind door person }
 {
     if MOST_PEOPLE < site.people {
         return Deed::Tells(Answer::Unsound, UNTOLD);

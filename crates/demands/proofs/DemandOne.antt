@@ -1,6 +1,6 @@
 -- Demand 1 of a site sheet; what it says is in `specs/DemandOne.antt`. Assumes nothing.
 use Prim.Native.Nat.{ℕ, ◌≤◌}
-use mathlib.Core.Path.{◌≡◌, refl}
+use mathlib.Core.Path.{◌≡◌, refl, sym}
 use mathlib.Core.Bool.{true, false≢true}
 use mathlib.Core.List.{List}
 use native.Mathlib.Omega.{arith}
@@ -15,7 +15,9 @@ use Rattle.tables.specs.Tests.{first_no_exit, first_stray, first_no_door, first_
 use Rattle.soundness.specs.SoundTest.{lists_sound}
 use Rattle.record.specs.SoundTest.{sound_b}
 use Rattle.tables.proofs.Cases.{either}
-use Rattle.verdict.specs.Verdict.{Verdict}
+use Rattle.verdict.specs.Verdict.{Verdict, said_of}
+use Rattle.verdict.proofs.Told.{verdict_number_told, accepted_told, refused_told, said_refused}
+use Rattle.site_lines.proofs.Told.{all_told, stop_told, told_all, told_stop}
 use Rattle.verdict.specs.Verdict.{Accepted, TooLong, BadRow, OutOfRange, Twice, NoSite, NoExit, Stray, NoDoor, NoRight, ShutOut}
 use Rattle.site_sheet.specs.Site.{SiteRead}
 use Rattle.site_lines.specs.Draft.{Reading}
@@ -28,7 +30,7 @@ use Rattle.grammar.specs.Sizes.{limit}
 use Rattle.site_sheet.specs.Site as site
 use Rattle.site_lines.proofs.Theorems.{line_exactly, rows_taken}
 use Rattle.site_sheet.proofs.Theorems.{given_exactly}
-use Rattle.demands.specs.DemandOne.{TableLine, accepted, too_long, bad_form, out_of_range, twice, no_site, no_exit, stray, no_door, no_right, shut_out, SiteTells, SiteAnswers}
+use Rattle.demands.specs.DemandOne.{TableLine, accepted, too_long, bad_form, out_of_range, twice, no_site, no_exit, stray, no_door, no_right, shut_out, SiteTells, RowsAreTold, SiteAnswers}
 
 pub number_most : (v : Verdict) → site.verdict_no v ≤ 10
 number_most Accepted = omega arith
@@ -120,14 +122,23 @@ site_tells s =
       number = line_of (site_of s).verdict;
       exactly = given_exactly limit s;
       no_record = λ some. let e = site_blank s some in (e, λ t. blank_unsound (rw e at t));
+      told_record = λ r. ((λ e. accepted_told _ _ (sym e)), (λ p. rw (p.0, p.1) refl));
+      told_refusal = λ f. ((λ e. refused_told _ _ (sym e)), (λ p. rw p (said_refused f _)));
+      told_number = verdict_number_told _ _;
     }
+
+rows_are_told : (r : Reading) → RowsAreTold r
+rows_are_told r = record { filled = λ x. ((λ e. all_told r (sym e)), told_all r x); stopped = λ x. ((λ e. stop_told r (sym e)), told_stop r x) }
 
 pub of_site : SiteAnswers
 of_site = record {
   site_line_of_lem = line_exactly;
-  read_rows_lem = rows_taken;
+  read_rows_lem = λ s from lines says. (rows_taken s from lines says, rows_are_told _);
   read_site = site_tells;
   verdict_number = line_of;
   verdict_place = λ v number place second line. (only_line line).0;
   verdict_second_place = λ v number place second line. (only_line line).1;
+  site_refused_number = λ f. line_of (said_of f);
+  site_refused_place = λ f number place second line. (only_line line).0;
+  site_refused_second_place = λ f number place second line. (only_line line).1;
 }

@@ -3,7 +3,7 @@
 use Prim.Native.Nat.{ℕ}
 use mathlib.Core.Path.{◌≡◌, sym, ap, ◌∙◌, refl}
 use mathlib.Core.Bool.{Bool, true, false}
-use mathlib.Core.List.{List}
+use mathlib.Core.List.{List, [], ◌∷◌}
 use mathlib.Core.Logic.{inl, inr}
 use lib.ListN.{length}
 use Rattle.tables.specs.Below.{Tells}
@@ -13,9 +13,14 @@ use Rattle.std.specs.Prelude.{Ok, Err}
 use Rattle.findings.specs.Told.{too_short}
 use Rattle.steps_sheet.specs.declared.Decoded.{Decoded}
 use Rattle.steps_sheet.specs.Says.{Steps}
-use Rattle.steps_sheet.specs.Steps.{steps_from}
+use Rattle.steps_sheet.specs.Steps.{steps_from, heading_of}
 use Rattle.steps_sheet.specs.Lent.{room_for_steps, steps_room_in, decoded_of, listed}
-use Rattle.steps_sheet.proofs.Theorems.{step_exactly, bad_exactly, steps_exactly, heading_exactly}
+use Rattle.steps_sheet.proofs.Theorems.{step_exactly, bad_exactly, steps_exactly, heading_exactly, told_heading}
+use Rattle.numbers.specs.Numbers.{too_long_no, bad_form_no}
+use Rattle.numbers.specs.Telling.{OneOf}
+use Rattle.steps_sheet.specs.Heading.{heading_told, unheaded_no}
+use Rattle.steps_sheet.specs.declared.Unheaded.{Unheaded}
+use Rattle.steps_sheet.specs.declared.Unheaded.TheVariants as unheaded
 use Rattle.demands.specs.DemandOne.{StepsRoom, DecodeTells, StepsAnswers}
 
 room_tells : (s kinds doors persons : List ℕ) → Tells (steps_room_in s kinds doors persons) (StepsRoom (length s) kinds doors persons)
@@ -52,5 +57,17 @@ decode_tells s from kinds doors persons = go (steps_room_in s kinds doors person
           decoded = λ d e. let z : Err too_short ≡ Ok d = rw b at e in cc;
         }
 
+unheaded_one_of : (why : Unheaded) → OneOf (too_long_no ∷ bad_form_no ∷ []) (unheaded_no why)
+unheaded_one_of unheaded.TooLong = inl refl
+unheaded_one_of unheaded.Wrong = inr (inl refl)
+
 pub of_steps : StepsAnswers
-of_steps = record { steps_line_of_lem = λ s cells r h. record { a_step = step_exactly s r h; bad = bad_exactly s r h }; heading_of_lem = heading_exactly limit; decode = decode_tells }
+of_steps =
+    record {
+      steps_line_of_lem = λ s cells r h. record { a_step = step_exactly s r h; bad = bad_exactly s r h };
+      heading_of_lem =
+          λ s h.
+          let is = heading_exactly limit s h in (is, ((λ e. is.0 (told_heading (heading_of s) h e)), (λ says. ap heading_told (is.1 says))));
+      unheaded_number = unheaded_one_of;
+      decode = decode_tells;
+    }

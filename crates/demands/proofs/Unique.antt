@@ -20,10 +20,13 @@ site_unique =
       verdict_number = λ v. alone;
       verdict_place = λ v. alone;
       verdict_second_place = λ v. alone;
+      site_refused_number = λ f. alone;
+      site_refused_place = λ f. alone;
+      site_refused_second_place = λ f. alone;
     }
 
 pub steps_unique : StepsUnique
-steps_unique = record { steps_line_of_lem = λ s cells. alone; heading_of_lem = λ s. alone; decode = λ s from kinds doors persons. beside_three }
+steps_unique = record { steps_line_of_lem = λ s cells. alone; heading_of_lem = λ s. alone; unheaded_number = λ why. alone; decode = λ s from kinds doors persons. beside_three }
 
 pub run_unique : RunUnique
 run_unique =

@@ -5,14 +5,17 @@
 -- printed are here, and that of rows that come is in `specs/Rows.antt`. The others are in `sheet_answers/specs/Answers.antt`, `syslog_answers/specs/Answers.antt`,
 -- `table_answers/specs/Answers.antt`, and `record_answers/specs/Answers.antt`, `record_answers/specs/Deeds.antt` and
 -- `record_answers/specs/Enums.antt`.
-use Rattle.std.specs.Prelude.{ℕ, ◌+◌, ◌*◌, ◌≤◌, ◌<◌, ◌≡◌, true, false, cond, List, ◌↔◌, length, drop, replicate, eqb, leb, Result, Ok, Err}
+use Rattle.std.specs.Prelude.{ℕ, ◌+◌, ◌*◌, ◌≤◌, ◌<◌, ◌≡◌, true, false, cond, List, [], ◌∷◌, ◌↔◌, length, drop, replicate, eqb, leb, Result, Ok, Err}
 use Rattle.std.proofs.lemmas.List.Edits.{sets}
 use Rattle.std.specs.Prelude.{Some, None}
 use Rattle.numbers.specs.Numbers.{done_no, too_long_no, bad_form_no, out_of_range_no, twice_no, no_site_no, no_exit_no, stray_no, no_door_no, no_right_no, shut_out_no, too_short_no}
 use Rattle.text.specs.Printed.{printed_of, Prints}
 use Rattle.record.specs.SoundTest.{sound_b}
 use Rattle.verdict.specs.Verdict.{Verdict}
-use Rattle.verdict.specs.Verdict.{Accepted, TooLong, BadRow, OutOfRange, Twice, NoSite, NoExit, Stray, NoDoor, NoRight, ShutOut}
+use Rattle.verdict.specs.Verdict.{Accepted, TooLong, BadRow, OutOfRange, Twice, NoSite, NoExit, Stray, NoDoor, NoRight, ShutOut, said_of}
+use Rattle.verdict.specs.Numbers.{site_refused_no}
+use Rattle.verdict.specs.declared.SiteRefused.{SiteRefused}
+use Rattle.record.specs.declared.record.Record.{Record}
 use Rattle.grammar.specs.declared.cut.Cells.{Cells}
 use Rattle.tables.specs.Tables.{may_be, most_people, most_locations}
 use Rattle.grammar.specs.Grammar.{Row}
@@ -22,13 +25,18 @@ use Rattle.grammar.specs.Sizes.{limit}
 use Rattle.phases.specs.declared.table.StepRow.{StepRow}
 use Rattle.site_lines.specs.declared.SiteLine.{SiteLine}
 use Rattle.site_lines.specs.Line.{site_line_at}
-use Rattle.site_lines.specs.Draft.{blank_draft}
+use Rattle.site_lines.specs.Draft.{blank_draft, Reading}
+use Rattle.site_lines.specs.Fault.{Sound}
+use Rattle.site_lines.specs.Lent.{fault_of, reading_told}
+use Rattle.site_lines.specs.declared.Filled.{Filled}
+use Rattle.site_lines.specs.declared.Stopped.{Stopped}
 use Rattle.site_lines.specs.Says.{SaysSo, TextSaysLines}
 use Rattle.site_lines.specs.Taking.{lines_in, read_lines}
-use Rattle.site_sheet.specs.Site.{site_of, blank_record, first_place, second_place}
+use Rattle.site_sheet.specs.Site.{site_of, site_told, blank_record, first_place, second_place}
 use Rattle.site_sheet.specs.Site as site
 use Rattle.site_lines.specs.Gives.{RowsTold, Gives}
-use Rattle.steps_sheet.specs.Heading.{Heading}
+use Rattle.steps_sheet.specs.Heading.{Heading, heading_told, unheaded_no}
+use Rattle.steps_sheet.specs.declared.Unheaded.{Unheaded}
 use Rattle.steps_sheet.specs.Says.{Steps, SaysStep, BadForm, TextSaysSteps, HeadingSays}
 use Rattle.steps_sheet.specs.Steps.{steps_line_at, heading_of}
 use Rattle.steps_sheet.specs.Lent.{most_in, kinds_in, doors_in, persons_in, decoded_in, kinds_listed, doors_listed, persons_listed}
@@ -36,7 +44,7 @@ use Rattle.run_text.specs.Printed.{panel_text, where_text}
 use Rattle.blank_lists.specs.{most_panel_text, most_where_text}
 use Rattle.stream_lists.specs.{most_events_text, most_rows_text}
 use Rattle.stream_text.specs.Stream.{events_text}
-use Rattle.numbers.specs.Telling.{done, ◌unless◌then◌, NumberBy}
+use Rattle.numbers.specs.Telling.{done, ◌unless◌then◌, NumberBy, OneOf}
 use Rattle.sheet_answers.specs.Answers.{SheetAnswers, TextTells, TextAnswers}
 use Rattle.syslog_answers.specs.Answers.{RowsText, SyslogAnswers}
 use Rattle.table_answers.specs.Answers.{TablesAnswers, RulesAnswers, DoorAnswers}
@@ -77,17 +85,32 @@ pub record SiteTells (s : List ℕ) : Type 0 where
   pub exactly : (v : Verdict) → ((site_of s).verdict ≡ v) ↔ Gives limit s v
   -- "A refused site sheet gives no new record.": the blank one, which isn't sound
   pub no_record : (site.verdict_no (site_of s).verdict ≡ done_no → ⊥) → ((site_of s).«record» ≡ blank_record) × (sound_b (site_of s).«record» ≡ true → ⊥)
+  -- what is told of it, in the code's type: the record exactly where the sheet is accepted, and a refusal exactly where its verdict was said
+  pub told_record : (r : Record) → (site_told (site_of s) ≡ Ok r) ↔ (((site_of s).verdict ≡ Accepted) × ((site_of s).«record» ≡ r))
+  pub told_refusal : (f : SiteRefused) → (site_told (site_of s) ≡ Err f) ↔ ((site_of s).verdict ≡ said_of f)
+  -- and the number of what is told is the verdict's
+  pub told_number : told_no site_refused_no (site_told (site_of s)) ≡ site.verdict_no (site_of s).verdict
+
+-- what is told of rows that were read, in the code's type: all of it, whether they were taken to the end or stopped
+pub record RowsAreTold (r : Reading) : Type 0 where
+  pub filled : (x : Filled) → (reading_told r ≡ Ok x) ↔ ((r.fault ≡ Sound) × (r.draft ≡ x.draft) × (r.row ≡ x.row))
+  pub stopped : (x : Stopped) → (reading_told r ≡ Err x) ↔ ((r.fault ≡ fault_of x.stop.fault) × (r.row ≡ x.stop.row) × (r.draft ≡ x.draft))
 
 pub record SiteAnswers : Type 0 where
   -- a row is told to say a line exactly when it says it
   pub site_line_of_lem : (s : List ℕ) (cells : Cells) (r : Row) → RowHolds s cells r → (line : SiteLine) → (site_line_at s cells ≡ line) ↔ SaysSo r line
   -- rows are taken into tables that hold what they say, or the first with which something is wrong is told
-  pub read_rows_lem : (s : List ℕ) (from : ℕ) (lines : List SiteLine) → TextSaysLines (drop from s) lines → RowsTold lines (read_lines blank_draft 1 (lines_in s (rows_from s from)))
+  pub read_rows_lem : (s : List ℕ) (from : ℕ) (lines : List SiteLine) → TextSaysLines (drop from s) lines
+      → RowsTold lines (read_lines blank_draft 1 (lines_in s (rows_from s from))) × RowsAreTold (read_lines blank_draft 1 (lines_in s (rows_from s from)))
   pub read_site : (s : List ℕ) → SiteTells s
   -- each verdict has its line, with its number and its places
   pub verdict_number : (v : Verdict) → TableLine v (site.verdict_no v) (first_place v) (second_place v)
   pub verdict_place : (v : Verdict) (number place second : ℕ) → TableLine v number place second → first_place v ≡ place
   pub verdict_second_place : (v : Verdict) (number place second : ℕ) → TableLine v number place second → second_place v ≡ second
+  -- and so has each refusal, in the code's type
+  pub site_refused_number : (f : SiteRefused) → TableLine (said_of f) (site_refused_no f) (first_place (said_of f)) (second_place (said_of f))
+  pub site_refused_place : (f : SiteRefused) (number place second : ℕ) → TableLine (said_of f) number place second → first_place (said_of f) ≡ place
+  pub site_refused_second_place : (f : SiteRefused) (number place second : ℕ) → TableLine (said_of f) number place second → second_place (said_of f) ≡ second
 
 -- ---- crates `steps_row` and `steps`
 
@@ -118,7 +141,9 @@ pub record StepsLineTells (s : List ℕ) (cells : Cells) (r : Row) : Type 0 wher
 pub record StepsAnswers : Type 0 where
   pub steps_line_of_lem : (s : List ℕ) (cells : Cells) (r : Row) → RowHolds s cells r → StepsLineTells s cells r
   -- a sheet is too long, has a header behind which its rows begin, or a wrong one, and is told to be exactly what it is
-  pub heading_of_lem : (s : List ℕ) (h : Heading) → (heading_of s ≡ h) ↔ HeadingSays limit s h
+  pub heading_of_lem : (s : List ℕ) (h : Heading) → ((heading_of s ≡ h) ↔ HeadingSays limit s h) × ((heading_told (heading_of s) ≡ heading_told h) ↔ HeadingSays limit s h)
+  -- "sheet over 49,152 bytes", "wrong header"
+  pub unheaded_number : (why : Unheaded) → OneOf (too_long_no ∷ bad_form_no ∷ []) (unheaded_no why)
   pub decode : (s : List ℕ) (from : ℕ) (kinds doors persons : List ℕ) → DecodeTells s from kinds doors persons
 
 -- ---- crates `run`, `stream`, `blank_lists` and `program_io`, and the list of `stream_lists` for a stream that is printed
@@ -148,7 +173,7 @@ pub record RunAnswers : Type 0 where
 
 -- ---- all of them
 
-pub record DemandOne : Type 0 where
+pub record DemandOne : Type 1 where
   pub of_sheet : SheetAnswers
   pub of_text : TextAnswers
   pub of_syslog : SyslogAnswers

@@ -12,19 +12,23 @@ use Rattle.tables.specs.Tables.{most_people, most_locations}
 use Rattle.text.specs.Printed.{Prints}
 use Rattle.record.specs.declared.record.Record.{Record}
 use Rattle.record.specs.Steps.{First, HeldDoor}
-use Rattle.verdict.specs.Verdict.{Verdict}
+use Rattle.verdict.specs.Verdict.{Verdict, said_of}
+use Rattle.verdict.specs.Numbers.{site_refused_no}
+use Rattle.verdict.specs.declared.SiteRefused.{SiteRefused}
 use Rattle.grammar.specs.declared.cut.Cells.{Cells}
 use Rattle.grammar.specs.Rows.{rows_from}
 use Rattle.site_lines.specs.declared.SiteLine.{SiteLine}
-use Rattle.site_lines.specs.Draft.{Reading}
-use Rattle.site_sheet.specs.Site.{SiteRead}
+use Rattle.site_lines.specs.declared.Filled.{Filled}
+use Rattle.site_lines.specs.declared.Stopped.{Stopped}
+use Rattle.site_lines.specs.Lent.{reading_told}
 use Rattle.site_lines.specs.Line.{site_line_at}
 use Rattle.site_lines.specs.Draft.{blank_draft}
 use Rattle.site_lines.specs.Taking.{lines_in, read_lines}
-use Rattle.site_sheet.specs.Site.{site_of, first_place, second_place}
+use Rattle.site_sheet.specs.Site.{site_of, site_told, first_place, second_place}
 use Rattle.site_sheet.specs.Site as site
 use Rattle.site_lines.specs.Gives.{Gives}
-use Rattle.steps_sheet.specs.Heading.{Heading}
+use Rattle.steps_sheet.specs.Heading.{Heading, heading_told, unheaded_no}
+use Rattle.steps_sheet.specs.declared.Unheaded.{Unheaded}
 use Rattle.steps_sheet.specs.declared.Decoded.{Decoded}
 use Rattle.steps_sheet.specs.Says.{Steps, TextSaysSteps, HeadingSays}
 use Rattle.steps_sheet.specs.Steps.{steps_line_at, heading_of}
@@ -45,15 +49,19 @@ use Rattle.findings.specs.declared.TooShort.{TooShort}
 
 pub record SiteUnique : Type 0 where
   pub site_line_of_lem : (s : List ℕ) (cells : Cells) → Unique (λ (x : SiteLine). x ≡ site_line_at s cells)
-  pub read_rows_lem : (s : List ℕ) (from : ℕ) → Unique (λ (x : Reading). x ≡ read_lines blank_draft 1 (lines_in s (rows_from s from)))
-  pub read_site : (s : List ℕ) → Unique (λ (x : SiteRead). x ≡ site_of s)
+  pub read_rows_lem : (s : List ℕ) (from : ℕ) → Unique (λ (x : Result Filled Stopped). x ≡ reading_told (read_lines blank_draft 1 (lines_in s (rows_from s from))))
+  pub read_site : (s : List ℕ) → Unique (λ (x : Result Record SiteRefused). x ≡ site_told (site_of s))
   pub verdict_number : (v : Verdict) → Unique (λ (x : ℕ). x ≡ site.verdict_no v)
   pub verdict_place : (v : Verdict) → Unique (λ (x : ℕ). x ≡ first_place v)
   pub verdict_second_place : (v : Verdict) → Unique (λ (x : ℕ). x ≡ second_place v)
+  pub site_refused_number : (f : SiteRefused) → Unique (λ (x : ℕ). x ≡ site_refused_no f)
+  pub site_refused_place : (f : SiteRefused) → Unique (λ (x : ℕ). x ≡ first_place (said_of f))
+  pub site_refused_second_place : (f : SiteRefused) → Unique (λ (x : ℕ). x ≡ second_place (said_of f))
 
 pub record StepsUnique : Type 0 where
   pub steps_line_of_lem : (s : List ℕ) (cells : Cells) → Unique (λ (x : Option StepRow). x ≡ steps_line_at s cells)
-  pub heading_of_lem : (s : List ℕ) → Unique (λ (x : Heading). x ≡ heading_of s)
+  pub heading_of_lem : (s : List ℕ) → Unique (λ (x : Result ℕ Unheaded). x ≡ heading_told (heading_of s))
+  pub unheaded_number : (why : Unheaded) → Unique (λ (x : ℕ). x ≡ unheaded_no why)
   -- the answer, and the three lent lists at exit
   pub decode : (s : List ℕ) (from : ℕ) (kinds doors persons : List ℕ)
       → Unique
@@ -87,7 +95,7 @@ pub record PapersUnique : Type 0 where
   pub heading : (most : ℕ) (s : List ℕ) → Unique (HeadingSays most s)
   pub steps : (text : List ℕ) → Unique (λ (x : Steps). TextSaysSteps text x.rows x.whole)
 
-pub record AnswersUnique : Type 0 where
+pub record AnswersUnique : Type 1 where
   pub of_sheet : SheetUnique
   pub of_text : TextUnique
   pub of_syslog : SyslogUnique

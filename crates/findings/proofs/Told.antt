@@ -1,7 +1,7 @@
 -- The number that `number` gives of a `Result` is the paper's number of what is told. Assumes nothing.
 use Prim.Native.Nat.{ℕ}
 use mathlib.Core.Path.{◌≡◌, refl}
-use Rattle.std.specs.Prelude.{Option, Result, Ok, Err}
+use Rattle.std.specs.Prelude.{Option, Result}
 use Rattle.numbers.specs.Told.{told_no}
 use Rattle.findings.specs.declared.TooShort.{TooShort}
 use Rattle.findings.specs.declared.Refused.{Refused}
@@ -9,21 +9,16 @@ use Rattle.findings.specs.declared.WayRefused.{WayRefused}
 use Rattle.findings.specs.Told.{short_no, way_told_no, printed_no, refused_no, place_no, grant_no, way_refused_no, way_no}
 
 pub printed_number : (p : Result ℕ TooShort) → told_no short_no p ≡ printed_no p
-printed_number (Ok n) = refl
-printed_number (Err short) = refl
+printed_number p = refl
 
 pub way_told_number : (w : Result ℕ TooShort) → told_no short_no w ≡ way_told_no w
-way_told_number (Ok n) = refl
-way_told_number (Err short) = refl
+way_told_number w = refl
 
 pub place_number : (a : Result ℕ Refused) → told_no refused_no a ≡ place_no a
-place_number (Ok l) = refl
-place_number (Err refusal) = refl
+place_number a = refl
 
 pub grant_number : (a : Result (Option ℕ) Refused) → told_no refused_no a ≡ grant_no a
-grant_number (Ok door) = refl
-grant_number (Err refusal) = refl
+grant_number a = refl
 
 pub way_number : (a : Result ℕ WayRefused) → told_no way_refused_no a ≡ way_no a
-way_number (Ok n) = refl
-way_number (Err refusal) = refl
+way_number a = refl

@@ -1,7 +1,8 @@
 -- What is told of a text, of a way out and of a question, by the numbers of 01, "Numbers given back". "A refused question tells its
 -- number, and 0 or none for all else."
 use Rattle.std.specs.Prelude.{ℕ, Option, None, Result, Ok, Err}
-use Rattle.numbers.specs.Numbers.{done_no, no_such_no, too_short_no, unsound_no}
+use Rattle.numbers.specs.Numbers.{no_such_no, too_short_no, unsound_no}
+use Rattle.numbers.specs.Told.{told_no}
 use Rattle.findings.specs.declared.TooShort.{TooShort}
 use Rattle.findings.specs.declared.Refused.{Refused}
 use Rattle.findings.specs.declared.Refused.TheVariants as refused
@@ -18,8 +19,7 @@ short_no short = too_short_no
 
 -- a way that was written, by the paper's number and the length
 abbrev pub way_told_no : Result ℕ TooShort → ℕ
-way_told_no (Ok n) = done_no
-way_told_no (Err short) = too_short_no
+way_told_no told = told_no short_no told
 
 abbrev pub way_told_length : Result ℕ TooShort → ℕ
 way_told_length (Ok n) = n
@@ -27,8 +27,7 @@ way_told_length (Err short) = 0
 
 -- a text that was printed
 abbrev pub printed_no : Result ℕ TooShort → ℕ
-printed_no (Ok n) = done_no
-printed_no (Err short) = too_short_no
+printed_no told = told_no short_no told
 
 -- why a question is refused
 abbrev pub refused_no : Refused → ℕ
@@ -37,8 +36,7 @@ refused_no refused.Unsound = unsound_no
 
 -- where a person is: its number, and the location
 abbrev pub place_no : Result ℕ Refused → ℕ
-place_no (Ok l) = done_no
-place_no (Err refusal) = refused_no refusal
+place_no told = told_no refused_no told
 
 abbrev pub place_told : Result ℕ Refused → ℕ
 place_told (Ok l) = l
@@ -46,8 +44,7 @@ place_told (Err refusal) = 0
 
 -- which door is granted to a person: its number, and the door
 abbrev pub grant_no : Result (Option ℕ) Refused → ℕ
-grant_no (Ok door) = done_no
-grant_no (Err refusal) = refused_no refusal
+grant_no told = told_no refused_no told
 
 abbrev pub grant_told : Result (Option ℕ) Refused → Option ℕ
 grant_told (Ok door) = door
@@ -61,8 +58,7 @@ way_refused_no way.Unsound = unsound_no
 
 -- the way out: its number, and its length
 abbrev pub way_no : Result ℕ WayRefused → ℕ
-way_no (Ok n) = done_no
-way_no (Err refusal) = way_refused_no refusal
+way_no told = told_no way_refused_no told
 
 abbrev pub length_told : Result ℕ WayRefused → ℕ
 length_told (Ok n) = n

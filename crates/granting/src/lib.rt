@@ -1,7 +1,8 @@
 // Which door holds a grant of a person, why a person is denied a door, and which door is told with the reason.
 #![tactic(auto, using(std::proofs::lemmas::Bool::Decides::nat_tests), unfolding(tables::specs::Tables::and_also, crate::specs::Grants::grants_to, crate::specs::Grants::has_grant, crate::specs::Reasons::first_reason, crate::specs::Reasons::held_with))]
 
-ghost use Rattle.std.specs.Prelude.{◌≡◌};
+ghost use Rattle.std.specs.Prelude.{◌≡◌, List, ℕ};
+ghost use Rattle.tables.specs.Tables.{plan};
 ghost use Rattle.rules.specs.Lent.{plan_lent};
 ghost use Rattle.granting.specs.Grants.{grants_to, grant_of, has_grant};
 ghost use Rattle.granting.specs.Reasons.{first_reason, held_with};
@@ -35,7 +36,8 @@ fn has_grant(doors: usize, so: Doors, person: usize) -> bool
 
 // The first reason to deny this person this door, by the tables, the places and the doors, which are three lists of a record.
 pub fn first_reason(site: Tables, place: &[u8], so: Doors, door: usize, person: usize) -> u8
-    ensures { result ≡ first_reason (plan_lent site.entry) site.entry.right.now place.now so.entry.phase.now so.entry.holder.now door person }
+    ensures told { result ≡ first_reason (plan_lent site.entry) site.entry.right.now place.now so.entry.phase.now so.entry.holder.now door person }
+    ensures whatever_else { (people locations : ℕ) (exit : List ℕ) → result ≡ first_reason (plan people locations site.entry.doors site.entry.origin.now site.entry.destination.now exit) site.entry.right.now place.now so.entry.phase.now so.entry.holder.now door person }
 {
     if entry_at(place, person) != entry_at(site.origin, door) {
         return Reason::NOT_THERE;

@@ -5,6 +5,7 @@ use mathlib.Core.Logic.{inl, inr}
 use Rattle.std.specs.Prelude.{ℕ, None, Result, Ok, Err, Option}
 use Rattle.numbers.specs.Numbers.{done_no, no_such_no, too_short_no, unsound_no}
 use Rattle.findings.specs.Told.{way_told_no, way_told_length, place_told, place_no, grant_told, grant_no, length_told, way_no}
+use Rattle.findings.specs.Told.{refused_no, way_refused_no, refused_way}
 use Rattle.findings.specs.declared.WayRefused.{WayRefused}
 use Rattle.findings.specs.declared.WayRefused.TheVariants as way
 use Rattle.findings.specs.declared.Refused.{Refused}
@@ -54,6 +55,10 @@ way_length (Err way.NoSuch) refused = refl
 way_length (Err way.TooShort) refused = refl
 way_length (Err way.Unsound) refused = refl
 
+way_refused : (f : Refused) → way_refused_no (refused_way f) ≡ refused_no f
+way_refused no.NoSuch = refl
+way_refused no.Unsound = refl
+
 pub of_enums : EnumAnswers
 of_enums =
     record {
@@ -65,6 +70,7 @@ of_enums =
       grant_answer_door = grant_door;
       way_answer_number = way_number;
       way_answer_length = way_length;
+      way_refused_from = (way_refused, λ short. refl);
     }
 
 pub enums_unique : EnumUnique
@@ -78,4 +84,5 @@ enums_unique =
       grant_answer_door = λ a. alone;
       way_answer_number = λ a. alone;
       way_answer_length = λ a. alone;
+      way_refused_from = ((λ f. alone), (λ short. alone));
     }

@@ -5,9 +5,9 @@
 // is 0, and a right is not given. Location 0 is outside, and everybody's.
 #![tactic(auto, using(tables::proofs::Ways::way_laws, tables::proofs::Chains::some_found), unfolding(tables::specs::Tables::and_also, tables::specs::Tables::or_else, tables::specs::Tables::may_be, tables::specs::Tests::door_in_range, tables::specs::Tests::exit_in_range, tables::specs::Tests::counts_fit, tables::specs::Tests::plan_in_range, tables::specs::Tests::lacks_exit, tables::specs::Tests::strays, tables::specs::Tests::lacks_right, tables::specs::Tests::first_no_right, tables::specs::Tests::lawful_b, tables::specs::Below::least_pair, tables::specs::Below::location_of, tables::specs::Below::with_location, tables::specs::Way::unvisited, tables::specs::Way::way_of, crate::specs::Marks::is_first))]
 
-ghost use Rattle.std.specs.Prelude.{◌≡◌, ℕ, ◌+◌, ◌≤◌, false, length, get_or};
+ghost use Rattle.std.specs.Prelude.{◌≡◌, ℕ, ◌+◌, ◌≤◌, List, false, length, get_or};
 ghost use Rattle.std.proofs.lemmas.List.Edits.{sets};
-ghost use Rattle.tables.specs.Tables.{may_be, most_locations};
+ghost use Rattle.tables.specs.Tables.{plan, may_be, most_locations};
 ghost use Rattle.tables.specs.Below.{all_below, some_below, least_below};
 ghost use Rattle.tables.specs.Way.{unvisited, way_out, way_of, way_told_in, way_written_in};
 ghost use Rattle.tables.specs.Tests.{door_in_range, exit_in_range, counts_fit, plan_in_range, lacks_exit, first_no_exit};
@@ -143,7 +143,8 @@ impl<'a> Tables<'a> {
     // Rule 8: the smallest location that has no door to its exit: the doors are walked once, and the
     // locations are looked through as for rule 6.
     pub fn first_no_door(self) -> Option<usize>
-        ensures { result ≡ first_no_door (plan_lent self.entry) }
+        ensures told { result ≡ first_no_door (plan_lent self.entry) }
+        ensures whatever_else { (people : ℕ) → result ≡ first_no_door (plan people self.entry.locations self.entry.doors self.entry.origin.now self.entry.destination.now self.entry.exit.now) }
     {
         first_no_exit(self.locations, &self.mark_led())
     }
@@ -178,9 +179,12 @@ impl<'a> Tables<'a> {
         (0..self.people).find(|person| self.lacks_some(*person))
     }
 
-    // Rule 9: the smallest person with a right to a location but not to its exit, then the location.
+    // Rule 9: the smallest person with a right to a location but not to its exit, then the location. Inline, since in the test of soundness
+    // the lists' lengths are known, and each look at a right is then cheaper.
+    #[inline]
     pub fn first_no_right(self) -> Option<(usize, usize)>
-        ensures { result ≡ first_no_right (plan_lent self.entry) self.entry.right.now }
+        ensures told { result ≡ first_no_right (plan_lent self.entry) self.entry.right.now }
+        ensures whatever_else { (doors : ℕ) (origin destination : List ℕ) → result ≡ first_no_right (plan self.entry.people self.entry.locations doors origin destination self.entry.exit.now) self.entry.right.now }
     {
         let person = self.first_who_lacks()?;
         let location = self.first_lacking(person)?;
@@ -217,7 +221,8 @@ impl<'a> Tables<'a> {
 
     // Rule 10: the smallest person who has no first location from outside.
     pub fn first_shut_out(self) -> Option<usize>
-        ensures { result ≡ first_shut_out (plan_lent self.entry) self.entry.right.now }
+        ensures told { result ≡ first_shut_out (plan_lent self.entry) self.entry.right.now }
+        ensures whatever_else { (locations : ℕ) (exit : List ℕ) → result ≡ first_shut_out (plan self.entry.people locations self.entry.doors self.entry.origin.now self.entry.destination.now exit) self.entry.right.now }
     {
         let first = self.mark_first();
         (0..self.people).find(|person| self.is_shut_out(&first, *person))

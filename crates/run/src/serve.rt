@@ -1,6 +1,7 @@
 // The steps of a sheet, run on the record of a site.
-ghost use Rattle.std.specs.Prelude.{◌≡◌, ◌≤◌, length, take};
-ghost use Rattle.record.specs.Run.{replies_of};
+ghost use Rattle.std.specs.Prelude.{◌≡◌, ◌≤◌, map, length, take};
+ghost use Rattle.std.proofs.lemmas.List.Edits.{sets};
+ghost use Rattle.record.specs.Run.{replies_of, answer_told, phase_told, reason_told, held_told};
 ghost use Rattle.steps_sheet.specs.Lent.{most_steps};
 ghost use Rattle.steps_sheet.specs.Steps.{steps_from};
 ghost use Rattle.run_text.specs.Printed.{replies_from, most_run_text, ran_text, served_of};
@@ -63,6 +64,10 @@ pub(crate) fn serve(run: &Run<'_>, told: &mut Lists) -> Served
     ensures served { result ≡ served_of run.now.fresh (steps_from run.now.sheet.now run.now.from) }
     ensures few { result.count ≤ most_steps }
     ensures short { length (ran_text run.now.fresh (steps_from run.now.sheet.now run.now.from)) ≤ most_run_text result.count }
+    ensures answers { told.new.answers ≡ sets told.old.answers 0 (map answer_told (replies_of run.now.fresh (steps_from run.now.sheet.now run.now.from).rows)) }
+    ensures phases { told.new.phases ≡ sets told.old.phases 0 (map phase_told (replies_of run.now.fresh (steps_from run.now.sheet.now run.now.from).rows)) }
+    ensures reasons { told.new.reasons ≡ sets told.old.reasons 0 (map reason_told (replies_of run.now.fresh (steps_from run.now.sheet.now run.now.from).rows)) }
+    ensures held { told.new.held ≡ sets told.old.held 0 (map held_told (replies_of run.now.fresh (steps_from run.now.sheet.now run.now.from).rows)) }
     ensures told { replies_from (take result.count told.new.answers) (take result.count told.new.phases) (take result.count told.new.reasons) (take result.count told.new.held) ≡ replies_of run.now.fresh (steps_from run.now.sheet.now run.now.from).rows }
 {
     let mut kinds = [0; MOST_STEPS];

@@ -2,7 +2,8 @@
 -- `findings`, and says what follows of the definition that its promise cites. A function that answers no number tells a place or a fact:
 -- the place is there, the fact is told exactly where its field has `Tells` or `↔`.
 use Rattle.std.specs.Prelude.{ℕ, ◌+◌, ◌≤◌, ◌<◌, ◌≡◌, false, List, [], ◌∷◌, ◌++◌, ◌↔◌, length, take, drop, Some, Result, Ok, Err}
-use Rattle.std.specs.Borrow.{Bor}
+use Rattle.std.specs.Borrow.{Bor, MutBor}
+use Rattle.std.specs.Fn.{Shared}
 use Rattle.numbers.specs.Numbers.{done_no, too_short_no}
 use Rattle.reader.specs.declared.Reader.{Reader}
 use Rattle.grammar.specs.declared.cut.Cell.{Cell}
@@ -18,7 +19,7 @@ use Rattle.reader.specs.Reader.{reader_at}
 use Rattle.cell_meaning.specs.Say.{ProperNumber, content_at, is_word, says_words, number_at}
 use Rattle.text.specs.Text.{decimal, row_of_numbers}
 use Rattle.text.specs.Wrote.{last_place, Wrote}
-use Rattle.text.specs.Printed.{Prints}
+use Rattle.text.specs.Printed.{Prints, Puts}
 use Rattle.findings.specs.Told.{printed_no}
 use Rattle.tables.specs.Below.{Tells}
 use Rattle.numbers.specs.Telling.{done, ◌unless◌then◌, NumberBy, OneOf}
@@ -93,7 +94,7 @@ pub record TextTells (text out : List ℕ) (told : Result ℕ TooShort) (after :
   pub in_front : length text ≤ length out → after ≡ text ++ drop (length text) out
   pub unaltered : length out < length text → after ≡ out
 
-pub record TextAnswers : Type 0 where
+pub record TextAnswers : Type 1 where
   pub put : (list : List ℕ) (at byte : ℕ) (after : List ℕ) (next : ℕ) → Wrote list at (byte ∷ []) after next → TextWritten list at (byte ∷ []) after next
   pub put_bytes : (list : List ℕ) (at : ℕ) (bytes after : List ℕ) (next : ℕ) → Wrote list at bytes after next → TextWritten list at bytes after next
   -- a number has a digit at least
@@ -103,5 +104,6 @@ pub record TextAnswers : Type 0 where
   pub put_row : (list : List ℕ) (at first : ℕ) (more after : List ℕ) (next : ℕ) → Wrote list at (row_of_numbers first more) after next
       → TextWritten list at (row_of_numbers first more) after next × (3 ≤ length (row_of_numbers first more))
   -- whatever text is put: it is told by its length and stands in front, or is refused
-  pub print : (text list : List ℕ) (told : Result ℕ TooShort) (after : List ℕ) → Prints text list told after → TextTells text list told after
+  pub print : {F : Type 0} (g : Shared F (MutBor (List ℕ) × Unit {0}) (ℕ × (MutBor (List ℕ) × Unit {0}))) (put : F) (text list : List ℕ) (told : Result ℕ TooShort) (after : List ℕ)
+      → Puts g put text → ((text : List ℕ) → Puts g put text → Prints text list told after) → TextTells text list told after
   pub printed_number : (p : Result ℕ TooShort) → OneOf (done_no ∷ too_short_no ∷ []) (printed_no p)

@@ -2,7 +2,8 @@
 -- unique: whatever a promise allows, the answer and what each lent list holds at exit, is one thing. The promise stands as in the
 -- function's `ensures`.
 use Rattle.std.specs.Prelude.{ℕ, ◌≡◌, Bool, List, [], ◌∷◌, Option, Result}
-use Rattle.std.specs.Borrow.{Bor}
+use Rattle.std.specs.Borrow.{Bor, MutBor}
+use Rattle.std.specs.Fn.{Shared}
 use Rattle.reader.specs.declared.Reader.{Reader}
 use Rattle.grammar.specs.declared.cut.Cell.{Cell}
 use Rattle.grammar.specs.declared.cut.Cells.{Cells}
@@ -15,7 +16,7 @@ use Rattle.reader.specs.Reader.{reader_at}
 use Rattle.cell_meaning.specs.Say.{is_word, says_words, number_at}
 use Rattle.text.specs.Text.{decimal, row_of_numbers}
 use Rattle.text.specs.Wrote.{Wrote}
-use Rattle.text.specs.Printed.{Prints}
+use Rattle.text.specs.Printed.{Prints, Puts}
 use Rattle.findings.specs.Told.{printed_no}
 use Rattle.numbers.specs.Telling.{Unique}
 use Rattle.findings.specs.declared.TooShort.{TooShort}
@@ -31,11 +32,13 @@ pub record SheetUnique : Type 0 where
   pub says_words_lem : (s : List ℕ) (cells : Cells) (x y z : List ℕ) → Unique (λ (b : Bool). b ≡ says_words s cells x y z)
   pub number_of : (s : List ℕ) (cell : Cell) → Unique (λ (x : Option ℕ). x ≡ number_at s cell)
 
-pub record TextUnique : Type 0 where
+pub record TextUnique : Type 1 where
   -- the place told, and the lent list at exit
   pub put : (list : List ℕ) (at byte : ℕ) → Unique (λ (x : ℕ × List ℕ). Wrote list at (byte ∷ []) x.1 x.0)
   pub put_bytes : (list : List ℕ) (at : ℕ) (bytes : List ℕ) → Unique (λ (x : ℕ × List ℕ). Wrote list at bytes x.1 x.0)
   pub put_number : (list : List ℕ) (at n : ℕ) → Unique (λ (x : ℕ × List ℕ). Wrote list at (decimal n) x.1 x.0)
   pub put_row : (list : List ℕ) (at first : ℕ) (more : List ℕ) → Unique (λ (x : ℕ × List ℕ). Wrote list at (row_of_numbers first more) x.1 x.0)
-  pub print : (text list : List ℕ) → Unique (λ (x : Result ℕ TooShort × List ℕ). Prints text list x.0 x.1)
+  -- of whatever puts a text: the answer, and the lent list at exit
+  pub print : {F : Type 0} (g : Shared F (MutBor (List ℕ) × Unit {0}) (ℕ × (MutBor (List ℕ) × Unit {0}))) (put : F) (text list : List ℕ) → Puts g put text
+      → Unique (λ (x : Result ℕ TooShort × List ℕ). (text : List ℕ) → Puts g put text → Prints text list x.0 x.1)
   pub printed_number : (p : Result ℕ TooShort) → Unique (λ (x : ℕ). x ≡ printed_no p)

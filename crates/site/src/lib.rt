@@ -19,7 +19,7 @@ use reader::row_at;
 use record::record::Record;
 use rules::Tables;
 use sheet::LIMIT;
-use site_lines::{Draft, RowFault, Stop};
+use site_lines::{Draft, RowFault, Stopped};
 use site_tables::read_rows;
 use verdict::SiteRefused;
 
@@ -72,9 +72,10 @@ fn judged(draft: Draft) -> Result<Record, SiteRefused>
 }
 
 // The refusal of a sheet whose rows stop there. A `match` over the faults, since only some of them tell the row.
-fn refused_at(stop: Stop) -> SiteRefused
-    ensures { said_of result ≡ verdict_of (fault_of stop.fault) stop.row }
+fn refused_at(stopped: Stopped) -> SiteRefused
+    ensures { said_of result ≡ verdict_of (fault_of stopped.stop.fault) stopped.stop.row }
 {
+    let stop = stopped.stop;
     match stop.fault {
         RowFault::Form => SiteRefused::BadRow(stop.row),
         RowFault::NoSite => SiteRefused::NoSite,
@@ -88,11 +89,11 @@ fn refused_at(stop: Stop) -> SiteRefused
 fn settled(s: &[u8], from: usize) -> Result<Record, SiteRefused>
     ensures { result ≡ site_told (settled (read_lines blank_draft 1 (lines_in s.now (rows_from s.now from)))) }
 {
-    let draft = read_rows(s, from).map_err(refused_at)?;
-    if draft.locations == 0 {
+    let filled = read_rows(s, from).map_err(refused_at)?;
+    if filled.draft.locations == 0 {
         return Err(SiteRefused::NoSite);
     }
-    judged(draft)
+    judged(filled.draft)
 }
 
 // The answer to a site sheet: the fresh record that it describes, or what is wrong with it.

@@ -4,6 +4,8 @@ use Rattle.site_lines.specs.declared.Draft.{Draft}
 use Rattle.site_lines.specs.declared.RowFault as told
 use Rattle.site_lines.specs.declared.RowFault.TheVariants as told_fault
 use Rattle.site_lines.specs.declared.Stop.{Stop}
+use Rattle.site_lines.specs.declared.Filled.{Filled}
+use Rattle.site_lines.specs.declared.Stopped.{Stopped}
 use Rattle.site_lines.specs.Fault.{Fault, Sound, Form, NoSite, Range, Twice}
 use Rattle.site_lines.specs.Draft.{Taken, took, not_taken, Reading}
 
@@ -30,6 +32,11 @@ stopped_told told NoSite n = Err (stop told_fault.NoSite n)
 stopped_told told Range n = Err (stop told_fault.Range n)
 stopped_told told Twice n = Err (stop told_fault.Twice n)
 
--- The tables of the rows, or where they stopped.
-abbrev pub reading_told : Reading → Result Draft Stop
-reading_told r = stopped_told r.draft r.fault r.row
+-- the same with the tables as they are then
+abbrev pub with_tables : Draft → Result ℕ Stop → Result Filled Stopped
+with_tables d (Ok n) = Ok (record { draft = d; row = n })
+with_tables d (Err stop) = Err (record { draft = d; stop = stop })
+
+-- How far the rows were read: the tables and the row behind them all, or the tables and where the rows stopped.
+abbrev pub reading_told : Reading → Result Filled Stopped
+reading_told r = with_tables r.draft (stopped_told r.row r.fault r.row)

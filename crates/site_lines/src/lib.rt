@@ -70,3 +70,17 @@ pub struct Stop {
     pub fault: RowFault,
     pub row: usize,
 }
+
+// All rows of a sheet, taken: the tables, and the number that a further row would have.
+#[derive(Drop)]
+pub struct Filled {
+    pub draft: Draft,
+    pub row: usize,
+}
+
+// Rows that stopped: the tables as the rows before left them, and where that was.
+#[derive(Drop)]
+pub struct Stopped {
+    pub draft: Draft,
+    pub stop: Stop,
+}

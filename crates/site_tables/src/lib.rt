@@ -14,7 +14,7 @@ use crate::row::take;
 use blank_lists::blank_rights;
 use grammar::cut::RowCut;
 use reader::row_at;
-use site_lines::{Draft, RowFault, Stop};
+use site_lines::{Draft, Filled, RowFault, Stop, Stopped};
 use site_row::site_line_of;
 use tables::{MOST_DOORS, MOST_LOCATIONS};
 
@@ -22,9 +22,9 @@ mod row;
 
 // The rows of a sheet from a position on, the first of them row 1, into the tables that are lent. A `loop`, since only a row's cut tells
 // where the next one begins.
-fn take_rows<'s, 'a>(s: &'s [u8], from: usize, draft: &'a mut Draft) -> Result<(), Stop>
+fn take_rows<'s, 'a>(s: &'s [u8], from: usize, draft: &'a mut Draft) -> Result<usize, Stop>
     requires { Bounded (counts_of draft.old) }
-    ensures told { result ≡ stopped_told tt (read_lines draft.old 1 (lines_in s.now (rows_from s.now from))).fault (read_lines draft.old 1 (lines_in s.now (rows_from s.now from))).row }
+    ensures told { result ≡ stopped_told (read_lines draft.old 1 (lines_in s.now (rows_from s.now from))).row (read_lines draft.old 1 (lines_in s.now (rows_from s.now from))).fault (read_lines draft.old 1 (lines_in s.now (rows_from s.now from))).row }
     ensures draft { draft.new ≡ (read_lines draft.old 1 (lines_in s.now (rows_from s.now from))).draft }
 {
     let mut at = from;
@@ -39,7 +39,7 @@ fn take_rows<'s, 'a>(s: &'s [u8], from: usize, draft: &'a mut Draft) -> Result<(
                 at = next;
                 row += 1;
             }
-            RowCut::NoRow => return Ok(()),
+            RowCut::NoRow => return Ok(row),
             RowCut::Broken(_) => {
                 return Err(Stop {
                     fault: RowFault::Form,
@@ -50,8 +50,8 @@ fn take_rows<'s, 'a>(s: &'s [u8], from: usize, draft: &'a mut Draft) -> Result<(
     }
 }
 
-// The tables of the rows of a sheet from a position on, or where the rows stop.
-pub fn read_rows(s: &[u8], from: usize) -> Result<Draft, Stop>
+// The tables of the rows of a sheet from a position on, and the row behind them or where the rows stop.
+pub fn read_rows(s: &[u8], from: usize) -> Result<Filled, Stopped>
     ensures { result ≡ reading_told (read_lines blank_draft 1 (lines_in s.now (rows_from s.now from))) }
 {
     let mut draft = Draft {
@@ -64,6 +64,8 @@ pub fn read_rows(s: &[u8], from: usize) -> Result<Draft, Stop>
         given: [false; MOST_LOCATIONS],
         right: blank_rights(),
     };
-    take_rows(s, from, &mut draft)?;
-    Ok(draft)
+    match take_rows(s, from, &mut draft) {
+        Ok(row) => Ok(Filled { draft, row }),
+        Err(stop) => Err(Stopped { draft, stop }),
+    }
 }

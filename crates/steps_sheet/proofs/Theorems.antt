@@ -66,6 +66,12 @@ wrong_told TooLong e = cc
 wrong_told Wrong e = refl
 wrong_told (Rows from) e = cc
 
+-- so that no two headings are told alike
+pub told_heading : (h k : Heading) → heading_told h ≡ heading_told k → h ≡ k
+told_heading h TooLong e = too_long_told h (sym e)
+told_heading h Wrong e = wrong_told h (sym e)
+told_heading h (Rows from) e = rows_told h (sym e)
+
 -- A sheet with a header behind which rows begin isn't too long.
 pub headed_short : (most : ℕ) (s : List ℕ) {from : ℕ} → heading_at most s ≡ Rows from → length s ≤ most
 headed_short most s {from} e = go ((heading_exactly most s (Rows from)).0 e)

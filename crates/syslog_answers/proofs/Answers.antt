@@ -126,6 +126,7 @@ of_syslog =
       line_written_number = written_has;
       line_read_number = line_has;
       frame_read_number = frame_has;
+      unwritten_from = λ short. refl;
       put_line = λ list at e after next w. written_told w;
       put_frame = λ list at e after next w. written_told w;
       fits_line_lem = fits_tells;

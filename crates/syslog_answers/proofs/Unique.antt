@@ -34,6 +34,7 @@ syslog_unique =
       line_written_number = λ w. alone;
       line_read_number = λ told. alone;
       frame_read_number = λ told. alone;
+      unwritten_from = λ short. alone;
       put_line = λ list at e. one_written;
       put_frame = λ list at e. one_written;
       fits_line_lem = λ e. alone;

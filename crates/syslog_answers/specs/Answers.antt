@@ -11,7 +11,8 @@ use Rattle.syslog.specs.declared.Unwritten.{Unwritten}
 use Rattle.syslog.specs.declared.Unwritten.TheVariants as unwritten
 use Rattle.syslog.specs.declared.NotOurs.{NotOurs}
 use Rattle.syslog.specs.Line.{line_of, framed_of, Fits, fits_line}
-use Rattle.syslog.specs.Numbers.{written_no, line_read_no, frame_read_no}
+use Rattle.syslog.specs.Numbers.{written_no, line_read_no, frame_read_no, unwritten_no, short_line}
+use Rattle.findings.specs.Told.{short_no}
 use Rattle.syslog.specs.Lent.{Writes}
 use Rattle.syslog.specs.Reading.{not_ours, LineIs, ReadsLine, FrameAt, ReadsFrame, StreamSays}
 use Rattle.syslog.specs.Claims.{OnlyLinesRead, OnlyFramesRead}
@@ -92,6 +93,8 @@ pub record SyslogAnswers : Type 0 where
   pub line_written_number : (w : Result ℕ Unwritten) → WrittenHas w (written_no w)
   pub line_read_number : (told : Result LineEvent NotOurs) → LineHas told (line_read_no told)
   pub frame_read_number : (told : Result (Option (LineEvent × ℕ)) NotOurs) → FrameHas told (frame_read_no told)
+  -- a list that is too short keeps its number as a refusal of writing
+  pub unwritten_from : (short : TooShort) → unwritten_no (short_line short) ≡ short_no short
   pub put_line : (list : List ℕ) (at : ℕ) (e : LineEvent) (after : List ℕ) (next : ℕ) → Wrote list at (line_of e) after next
       → TextWritten list at (line_of e) after next
   pub put_frame : (list : List ℕ) (at : ℕ) (e : LineEvent) (after : List ℕ) (next : ℕ) → Wrote list at (framed_of e) after next

@@ -8,7 +8,7 @@ use Rattle.syslog.specs.declared.LineEvent.{LineEvent}
 use Rattle.syslog.specs.declared.Unwritten.{Unwritten}
 use Rattle.syslog.specs.declared.NotOurs.{NotOurs}
 use Rattle.syslog.specs.Line.{line_of, framed_of, fits_line}
-use Rattle.syslog.specs.Numbers.{written_no, line_read_no, frame_read_no}
+use Rattle.syslog.specs.Numbers.{written_no, line_read_no, frame_read_no, short_line}
 use Rattle.syslog.specs.Lent.{Writes}
 use Rattle.syslog.specs.Reading.{ReadsLine, ReadsFrame}
 use Rattle.syslog.specs.Rows.{most_stream, PrintsEvents}
@@ -19,6 +19,7 @@ pub record SyslogUnique : Type 0 where
   pub line_written_number : (w : Result ℕ Unwritten) → Unique (λ (x : ℕ). x ≡ written_no w)
   pub line_read_number : (told : Result LineEvent NotOurs) → Unique (λ (x : ℕ). x ≡ line_read_no told)
   pub frame_read_number : (told : Result (Option (LineEvent × ℕ)) NotOurs) → Unique (λ (x : ℕ). x ≡ frame_read_no told)
+  pub unwritten_from : (short : TooShort) → Unique (λ (x : Unwritten). x ≡ short_line short)
   -- the place told, and the lent list at exit
   pub put_line : (list : List ℕ) (at : ℕ) (e : LineEvent) → Unique (λ (x : ℕ × List ℕ). Wrote list at (line_of e) x.1 x.0)
   pub put_frame : (list : List ℕ) (at : ℕ) (e : LineEvent) → Unique (λ (x : ℕ × List ℕ). Wrote list at (framed_of e) x.1 x.0)

@@ -72,14 +72,15 @@ fn print_frame(rt: &impl Print, text: &[u8], at: usize) -> Option<usize> {
     }
 }
 
-// A frame has at least a byte.
+// Where nothing more is read the next place is the end of the longest text, which a text of that length has too: its end is told again, once
+// for each further turn.
 fn print_frames(rt: &impl Print, text: &[u8]) {
     let mut at = 0;
-    for _ in 0..=text.len() {
-        let Some(behind) = print_frame(rt, text, at) else {
+    for _ in 0..MOST_BYTES {
+        if text.len() < at {
             return;
-        };
-        at = behind;
+        }
+        at = print_frame(rt, text, at).unwrap_or(MOST_BYTES);
     }
 }
 

@@ -88,6 +88,9 @@ module _ (test : ℕ → Bool) where
       split n k (λ j. test j ≡ true → some_below test (suc n) ≡ true) (or_right (some_below test n) (test n))
       (λ lt p. or_left (some_below test n) (test n) (some_back n k lt p)) h e
 
+  pub some_none : (n : ℕ) → ((k : ℕ) → k < n → test k ≡ false) → some_below test n ≡ false
+  some_none n clear = not_so (some_below test n) (λ e. let r = some_yes n e in clash r.2 (clear r.0 r.1))
+
   pub none_some : (n : ℕ) → some_below test n ≡ false → (k : ℕ) → k < n → test k ≡ false
   none_some n e k h = not_so (test k) (λ p. clash (some_back n k h p) e)
 

@@ -10,5 +10,4 @@ pub returns : goal.returns
 unfolding grant_of
 returns c =
     let a = c.args in
-    let found = find_is (grants_to a.so.phase.now a.so.holder.now a.person) _ _ c.find.result c.find.ensures.ran refl (λ x b q k. search (rules, tests)) in
-    cc
+    find_is (grants_to a.so.phase.now a.so.holder.now a.person) _ _ _ c.find.ensures.ran refl (λ x b q k. search (rules, tests))

@@ -22,7 +22,7 @@ loop-at-preserved c =
     let e = c.carry_out-told.ensures in
     let site = c.tables.ensures in
     let lists = c.door_lists.ensures in
-    let deed = rw (site.plan, site.rights, lists.phases, lists.holders, lists.counts) at c.judge-deed.ensures in
+    let deed = rw (site.plan, site.rights, lists.phases, lists.holders, lists.counts) at c.judge-deed.ensures.told in
     let is =
     rw (c.from.ensures, c.entry_at-door.ensures, c.entry_at.ensures) at
     (stepped _ _ _ _ run.room run.sound _ deed _ _ _ _ _ (e.told, (e.places, (e.phases, (e.holders, e.counts)))))

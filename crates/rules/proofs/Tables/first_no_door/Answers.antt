@@ -9,4 +9,6 @@ use Rattle.rules.proofs.Tables.first_no_door.Goals as goal
 
 pub returns : goal.returns
 unfolding first_no_exit lacks_exit first_no_door lacks_door
-returns c = c.first_no_exit.ensures ∙ (λ i. least_below (λ l. and_also (ltb 0 l) (not (c.mark_led.ensures l i))) c.args.self.locations)
+returns c =
+    let looked = c.first_no_exit.ensures ∙ (λ i. least_below (λ l. and_also (ltb 0 l) (not (c.mark_led.ensures l i))) c.args.self.locations) in
+    record { told = looked; whatever_else = λ people. looked }

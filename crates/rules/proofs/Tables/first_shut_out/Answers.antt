@@ -13,5 +13,8 @@ unfolding first_shut_out
 returns c =
     let a = c.args.self in
     let first = c.mark_first-first.result in
+    let looked =
     find_is (has_no_first first a.right.now) _ _ _ c.find.ensures.ran refl (λ x b q k. search rules)
     ∙ (λ i. least_below (λ p. no_first_same _ _ a.doors first a.right.now c.mark_first-first.ensures p i) a.people)
+    in
+    record { told = looked; whatever_else = λ locations exit. looked }

@@ -98,11 +98,18 @@ returns c =
     let hr : length steps.rows ≤ length told.reasons = omega arith in
     let hh : length steps.rows ≤ length told.held = omega arith in
     let next = ran_steps run.fresh steps told.answers told.phases told.reasons told.held run.sound ha hp hr hh lists e.ran in
+    let answers = told_steps run.fresh steps told.answers told.phases told.reasons told.held run.sound ha hp hr hh lists answer_told told.answers e.answers in
+    let phases = told_steps run.fresh steps told.answers told.phases told.reasons told.held run.sound ha hp hr hh lists phase_told told.phases e.phases in
+    let reasons = told_steps run.fresh steps told.answers told.phases told.reasons told.held run.sound ha hp hr hh lists reason_told told.reasons e.reasons in
+    let held = told_steps run.fresh steps told.answers told.phases told.reasons told.held run.sound ha hp hr hh lists held_told told.held e.held in
     record {
       served = rw (next, count, whole);
       few = few;
+      answers = answers;
+      phases = phases;
+      reasons = reasons;
+      held = held;
       short = omega (arith, run_short run.fresh shaped ((sound_tells _ shaped).yes run.sound) steps.rows steps.whole (omega (arith, few, count)), count);
       told =
-          heard run.fresh steps.rows told.answers told.phases told.reasons told.held count (omega arith, omega arith, omega arith, omega arith)
-          (told_steps run.fresh steps told.answers told.phases told.reasons told.held run.sound ha hp hr hh lists answer_told told.answers e.answers) (told_steps run.fresh steps told.answers told.phases told.reasons told.held run.sound ha hp hr hh lists phase_told told.phases e.phases) (told_steps run.fresh steps told.answers told.phases told.reasons told.held run.sound ha hp hr hh lists reason_told told.reasons e.reasons) (told_steps run.fresh steps told.answers told.phases told.reasons told.held run.sound ha hp hr hh lists held_told told.held e.held);
+          heard run.fresh steps.rows told.answers told.phases told.reasons told.held count (omega arith, omega arith, omega arith, omega arith) answers phases reasons held;
     }
