@@ -15,7 +15,9 @@ pub site_unique : SiteUnique
 site_unique =
     record {
       site_line_of_lem = λ s cells. alone;
+      rows_read = λ s from. alone;
       read_rows_lem = λ s from. alone;
+      site_read = λ s. alone;
       read_site = λ s. alone;
       verdict_number = λ v. alone;
       verdict_place = λ v. alone;
@@ -26,7 +28,7 @@ site_unique =
     }
 
 pub steps_unique : StepsUnique
-steps_unique = record { steps_line_of_lem = λ s cells. alone; heading_of_lem = λ s. alone; unheaded_number = λ why. alone; decode = λ s from kinds doors persons. beside_three }
+steps_unique = record { steps_line_of_lem = λ s cells. alone; heading_read = λ s. alone; heading_of_lem = λ s. alone; unheaded_number = λ why. alone; decode = λ s from kinds doors persons. beside_three }
 
 pub run_unique : RunUnique
 run_unique =

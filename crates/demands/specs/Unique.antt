@@ -22,9 +22,9 @@ use Rattle.site_lines.specs.declared.Filled.{Filled}
 use Rattle.site_lines.specs.declared.Stopped.{Stopped}
 use Rattle.site_lines.specs.Lent.{reading_told}
 use Rattle.site_lines.specs.Line.{site_line_at}
-use Rattle.site_lines.specs.Draft.{blank_draft}
+use Rattle.site_lines.specs.Draft.{blank_draft, Reading}
 use Rattle.site_lines.specs.Taking.{lines_in, read_lines}
-use Rattle.site_sheet.specs.Site.{site_of, site_told, first_place, second_place}
+use Rattle.site_sheet.specs.Site.{SiteRead, site_of, site_told, first_place, second_place}
 use Rattle.site_sheet.specs.Site as site
 use Rattle.site_lines.specs.Gives.{Gives}
 use Rattle.steps_sheet.specs.Heading.{Heading, heading_told, unheaded_no}
@@ -49,7 +49,10 @@ use Rattle.findings.specs.declared.TooShort.{TooShort}
 
 pub record SiteUnique : Type 0 where
   pub site_line_of_lem : (s : List ℕ) (cells : Cells) → Unique (λ (x : SiteLine). x ≡ site_line_at s cells)
+  -- what is read of rows and of a sheet, and what is told of it in the code's type
+  pub rows_read : (s : List ℕ) (from : ℕ) → Unique (λ (x : Reading). x ≡ read_lines blank_draft 1 (lines_in s (rows_from s from)))
   pub read_rows_lem : (s : List ℕ) (from : ℕ) → Unique (λ (x : Result Filled Stopped). x ≡ reading_told (read_lines blank_draft 1 (lines_in s (rows_from s from))))
+  pub site_read : (s : List ℕ) → Unique (λ (x : SiteRead). x ≡ site_of s)
   pub read_site : (s : List ℕ) → Unique (λ (x : Result Record SiteRefused). x ≡ site_told (site_of s))
   pub verdict_number : (v : Verdict) → Unique (λ (x : ℕ). x ≡ site.verdict_no v)
   pub verdict_place : (v : Verdict) → Unique (λ (x : ℕ). x ≡ first_place v)
@@ -60,6 +63,8 @@ pub record SiteUnique : Type 0 where
 
 pub record StepsUnique : Type 0 where
   pub steps_line_of_lem : (s : List ℕ) (cells : Cells) → Unique (λ (x : Option StepRow). x ≡ steps_line_at s cells)
+  -- what a header says, and what is told of it in the code's type
+  pub heading_read : (s : List ℕ) → Unique (λ (x : Heading). x ≡ heading_of s)
   pub heading_of_lem : (s : List ℕ) → Unique (λ (x : Result ℕ Unheaded). x ≡ heading_told (heading_of s))
   pub unheaded_number : (why : Unheaded) → Unique (λ (x : ℕ). x ≡ unheaded_no why)
   -- the answer, and the three lent lists at exit

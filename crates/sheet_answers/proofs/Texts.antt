@@ -77,6 +77,7 @@ of_text =
       put_bytes = λ list at bytes after next w. written_told w;
       put_number = λ list at n after next w. (written_told w, decimal_some n);
       put_row = λ list at first numbers after next w. (written_told w, row_some first numbers);
+      prints = λ text list told after w. text_tells w;
       print = λ g put text list told after puts w. text_tells (w text puts);
       printed_number = a_text_number;
     }

@@ -37,6 +37,7 @@ text_unique =
       put_bytes = λ list at bytes. one_written;
       put_number = λ list at n. one_written;
       put_row = λ list at first numbers. one_written;
+      prints = λ text list. one_printed;
       print = λ g put text list puts x y p q. one_printed x y (p text puts) (q text puts);
       printed_number = λ p. alone;
     }

@@ -16,6 +16,7 @@ use Rattle.site_lines.specs.declared.Draft.{Draft}
 use Rattle.site_lines.specs.declared.RowFault as told
 use Rattle.site_lines.specs.declared.RowFault.TheVariants as told_fault
 use Rattle.site_lines.specs.declared.Stop.{Stop}
+use Rattle.site_lines.specs.Fault.{Fault, Sound, Form, NoSite, Range, Twice}
 use Rattle.site_lines.specs.Lent.{fault_of, taken_with, stop, stopped_told, with_tables, reading_told}
 use Rattle.site_lines.specs.Line.{site_line_at}
 use Rattle.site_lines.specs.Draft.{Reading, Bounded, counts_of, took, not_taken, take_line}
@@ -35,6 +36,21 @@ fault_stops a told_fault.Form n = refl
 fault_stops a told_fault.NoSite n = refl
 fault_stops a told_fault.Range n = refl
 fault_stops a told_fault.Twice n = refl
+
+-- where rows stop doesn't hang on what is told of them all
+pub err_told : {A B : Type 0} (a : A) (b : B) (f : Fault) (n : ℕ) {x : Stop} → stopped_told a f n ≡ Err x → Err x ≡ stopped_told b f n
+err_told a b Sound n e = cc
+err_told a b Form n e = cc
+err_told a b NoSite n e = cc
+err_told a b Range n e = cc
+err_told a b Twice n e = cc
+
+pub ok_told : {A B : Type 0} (a : A) (b : B) (f : Fault) (n : ℕ) {x : A} → stopped_told a f n ≡ Ok x → Ok b ≡ stopped_told b f n
+ok_told a b Sound n e = refl
+ok_told a b Form n e = cc
+ok_told a b NoSite n e = cc
+ok_told a b Range n e = cc
+ok_told a b Twice n e = cc
 
 -- the tables that the rows left, and where these ended, are what is told of the reading
 pub tables_told : (r : Reading) {d : Draft} {x : Result ℕ Stop} → x ≡ stopped_told r.row r.fault r.row → d ≡ r.draft → with_tables d x ≡ reading_told r
@@ -80,6 +96,6 @@ module _ {s : List ℕ} {from at n : ℕ} {start draft : Draft} (so : ReadSoFar 
           bounded = rw (← t) at (bounded_stays draft so.bounded (site_line_at s cells));
         }
 
--- the rows that were read stop at one, at the end, or where the sheet can't be cut
-pub stop_is : (f : told.RowFault) {r : Reading} {d : Draft} {n : ℕ} → r ≡ reading d (fault_of f) n → Err (stop f n) ≡ stopped_told r.row r.fault r.row
-stop_is f {n = n} e = rw e (sym (fault_stops n f n))
+-- the rows that were read stop at one, at the end, or where the sheet can't be cut, whatever is told of them all
+pub stop_is : {A : Type 0} (a : A) (f : told.RowFault) {r : Reading} {d : Draft} {n : ℕ} → r ≡ reading d (fault_of f) n → Err (stop f n) ≡ stopped_told a r.fault r.row
+stop_is a f {n = n} e = rw e (sym (fault_stops a f n))

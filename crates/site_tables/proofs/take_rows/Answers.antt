@@ -9,7 +9,7 @@ use Rattle.site_lines.proofs.Loop.{read_turn, read_stop, read_more, stop_is}
 use Rattle.site_tables.proofs.take_rows.Goals as goal
 
 pub returns-in-Err-clause-told : goal.returns-in-Err-clause-told
-returns-in-Err-clause-told c = stop_is c.in-Err.fault (read_stop c.loop-cells.invariant (sym c.row_at.ensures ∙ c.in-Cut.is) (c.take.ensures ∙ ap (take_line _) c.site_line_of-line.ensures) c.in-Err.is)
+returns-in-Err-clause-told c = stop_is _ c.in-Err.fault (read_stop c.loop-cells.invariant (sym c.row_at.ensures ∙ c.in-Cut.is) (c.take.ensures ∙ ap (take_line _) c.site_line_of-line.ensures) c.in-Err.is)
 
 pub returns-in-Err-clause-draft : goal.returns-in-Err-clause-draft
 returns-in-Err-clause-draft c =
