@@ -103,9 +103,9 @@ pub record TextAnswers : Type 1 where
   -- a row has a digit and CRLF at least
   pub put_row : (list : List ℕ) (at first : ℕ) (more after : List ℕ) (next : ℕ) → Wrote list at (row_of_numbers first more) after next
       → TextWritten list at (row_of_numbers first more) after next × (3 ≤ length (row_of_numbers first more))
-  -- whatever text is printed: it is told by its length and stands in front, or is refused
+  -- whatever text is promised by `Prints`: it is told by its length and stands in front, or is refused
   pub prints : (text list : List ℕ) (told : Result ℕ TooShort) (after : List ℕ) → Prints text list told after → TextTells text list told after
-  -- and so is the text that `print` is lent, by whatever puts it
+  -- and so is that of `print`, whatever puts it
   pub print : {F : Type 0} (g : Shared F (MutBor (List ℕ) × Unit {0}) (ℕ × (MutBor (List ℕ) × Unit {0}))) (put : F) (text list : List ℕ) (told : Result ℕ TooShort) (after : List ℕ)
       → Puts g put text → ((text : List ℕ) → Puts g put text → Prints text list told after) → TextTells text list told after
   pub printed_number : (p : Result ℕ TooShort) → OneOf (done_no ∷ too_short_no ∷ []) (printed_no p)

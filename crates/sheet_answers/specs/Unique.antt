@@ -38,9 +38,9 @@ pub record TextUnique : Type 1 where
   pub put_bytes : (list : List ℕ) (at : ℕ) (bytes : List ℕ) → Unique (λ (x : ℕ × List ℕ). Wrote list at bytes x.1 x.0)
   pub put_number : (list : List ℕ) (at n : ℕ) → Unique (λ (x : ℕ × List ℕ). Wrote list at (decimal n) x.1 x.0)
   pub put_row : (list : List ℕ) (at first : ℕ) (more : List ℕ) → Unique (λ (x : ℕ × List ℕ). Wrote list at (row_of_numbers first more) x.1 x.0)
-  -- of each text that is printed: the answer, and the lent list at exit
+  -- of each text that is promised by `Prints`: the answer, and the lent list at exit
   pub prints : (text list : List ℕ) → Unique (λ (x : Result ℕ TooShort × List ℕ). Prints text list x.0 x.1)
-  -- and so of whatever puts a text
+  -- and so of that of `print`, whatever puts it
   pub print : {F : Type 0} (g : Shared F (MutBor (List ℕ) × Unit {0}) (ℕ × (MutBor (List ℕ) × Unit {0}))) (put : F) (text list : List ℕ) → Puts g put text
       → Unique (λ (x : Result ℕ TooShort × List ℕ). (text : List ℕ) → Puts g put text → Prints text list x.0 x.1)
   pub printed_number : (p : Result ℕ TooShort) → Unique (λ (x : ℕ). x ≡ printed_no p)
